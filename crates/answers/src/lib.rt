@@ -1,0 +1,56 @@
+// What a call answers: accepted, or a refusal with its place.
+ghost use mathlib.Core.Path.{_≡_};
+ghost use Rattle.answers.specs.Answers.{refusalNumber, numberOf, placeOf};
+
+// Why a call says no, in the order in which the reasons are asked.
+pub enum Refusal {
+    Size,
+    Entry,
+    Range,
+    Shared,
+    NoLane,
+    File,
+}
+
+pub enum Answer {
+    Accepted,
+    // The refusal, and its place.
+    Refused(Refusal, u32),
+}
+
+impl Refusal {
+    pub fn number(self) -> u32
+        ensures { λ r. ⌜ r ≡ refusalNumber self ⌝ }
+    {
+        match self {
+            Refusal::Size => 1,
+            Refusal::Entry => 2,
+            Refusal::Range => 3,
+            Refusal::Shared => 4,
+            Refusal::NoLane => 5,
+            Refusal::File => 6,
+        }
+    }
+}
+
+impl Answer {
+    // The number of the refusal; 0 where the call is accepted.
+    pub fn number(self) -> u32
+        ensures { λ r. ⌜ r ≡ numberOf self ⌝ }
+    {
+        match self {
+            Answer::Accepted => 0,
+            Answer::Refused(why, _) => why.number(),
+        }
+    }
+
+    // The place of the refusal; 0 where the call is accepted.
+    pub fn place(self) -> u32
+        ensures { λ r. ⌜ r ≡ placeOf self ⌝ }
+    {
+        match self {
+            Answer::Accepted => 0,
+            Answer::Refused(_, place) => place,
+        }
+    }
+}

@@ -1,0 +1,23 @@
+// The units of the procedure, and the quotient rounded up.
+//
+// A time and a flow are types of their own: no call that wants vehicles takes milliseconds.
+ghost use mathlib.Core.Path.{_≡_};
+ghost use Prim.Native.Nat.{_+_, _<_, _≤_, _^_};
+ghost use Rattle.units.specs.Rounding.{up};
+
+// Milliseconds.
+pub struct Ms(pub u32);
+
+// Vehicles per hour.
+pub struct Vph(pub u32);
+
+// a / b, rounded up; 0 where b is 0.
+pub fn divide_up(a: u64, b: u64) -> u64
+    requires { ⌜ a + b < 2 ^ 64 ⌝ }
+    ensures { λ r. ⌜ r ≡ up a b ⌝ }
+{
+    if b == 0 {
+        return 0;
+    }
+    (a + (b - 1)) / b
+}
