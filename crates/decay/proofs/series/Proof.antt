@@ -1,0 +1,124 @@
+use Rattle.decay.proofs.Laws.{next-term, next-turn, summed}
+use Rattle.decay.specs.Decay.{term, turns}
+use borrow.Author.Needs.{needs}
+use native.Mathlib.Omega.{arith}
+use native.Mathlib.Nat.{add-assoc}
+use mathlib.Core.Path.{_≡_, refl, _∙_, ap}
+use Prim.Native.Nat.{ℕ, _+_, _-_, _*_, _/_, _<_, _≤_}
+use Rattle.decay.proofs.series.Statement.{statement}
+use Rattle.decay.proofs.series.Tie as tie
+use Rattle.decay.proofs.series.Reads as reads
+use Rattle.decay.proofs.series.Lts as lts
+use Rattle.decay.proofs.next_term.Reads as next-term-reads
+
+-- the loop at j: the term 2j and the sum up to it, with the bounds that the next turn leans on
+record Partial (r t s j : ℕ) : Type 0 where
+  few : j ≤ 6
+  at-term : t ≡ term r (2 * j)
+  at-sum : s ≡ turns r j
+  low : t ≤ s
+  high : s ≤ 1_000_000_000
+
+at : (r : ℕ) {t s j : ℕ} → r < 7200 → j ≤ 6 → t ≡ term r (2 * j) → s ≡ turns r j → Partial r t s j
+at r {t} {s} {j} h few e f =
+    let b = summed r h j in
+    record { few = few; at-term = e; at-sum = f; low = omega (arith, b .low); high = omega (arith, b .high) }
+
+step :
+    {r t s j o u : ℕ} → r < 7200 → Partial r t s j → j < 6 → o ≡ t * r / (7200 * (2 * j + 1)) → u ≡ o * r / (7200 * (2 * j + 2)) → Partial r u (s - o + u) (j + 1)
+step {r} {t} {s} {j} {o} {u} small p h a b =
+    let odd : o ≡ term r (2 * j + 1) = rw next-term (cc (a, p .at-term)) in
+    let even : u ≡ term r (2 * j + 2) = rw (← add-assoc (2 * j) 1 1, next-term r (2 * j + 1), add-assoc) (cc (b, odd)) in
+    let twice : 2 * j + 2 ≡ 2 * (j + 1) = omega arith in
+    at r small (omega arith) (rw twice at even) (rw (next-turn, ← p .at-sum, ← odd, ← even))
+
+abbrev Inv-loop : tie.InvT-loop
+Inv-loop r term₀ sum₀ j₀ t s j = Partial r t s j
+
+abbrev μ-loop : tie.MeasureT-loop
+μ-loop r term₀ sum₀ j₀ t s j = 6 - j
+
+-- src/lib.rt:25:5
+loop-holds : tie.Need-loop-holds Inv-loop μ-loop
+unfolding term turns
+loop-holds c = at (c .args .r) (c .pre) (omega arith) refl refl
+
+-- src/lib.rt:26:46
+mul-next-term : tie.Need-mul-next-term Inv-loop μ-loop
+mul-next-term c = search needs
+
+-- src/lib.rt:26:46
+add-next-term : tie.Need-add-next-term Inv-loop μ-loop
+add-next-term c = search needs
+
+-- src/lib.rt:26:38
+mul-next-term-2 : tie.Need-mul-next-term-2 Inv-loop μ-loop
+mul-next-term-2 c = search needs
+
+-- src/lib.rt:26:13
+next-term-requires : tie.Need-next-term-requires Inv-loop μ-loop
+next-term-requires c κs = search needs
+
+-- src/lib.rt:27:42
+mul-next-term-3 : tie.Need-mul-next-term-3 Inv-loop μ-loop
+mul-next-term-3 c = search needs
+
+-- src/lib.rt:27:42
+add-next-term-2 : tie.Need-add-next-term-2 Inv-loop μ-loop
+add-next-term-2 c = search needs
+
+-- src/lib.rt:27:34
+mul-next-term-4 : tie.Need-mul-next-term-4 Inv-loop μ-loop
+mul-next-term-4 c = search needs
+
+-- src/lib.rt:27:9
+next-term-requires-2 : tie.Need-next-term-requires-2 Inv-loop μ-loop
+next-term-requires-2 c κs = search needs
+
+-- src/lib.rt:28:15
+sub-sum : tie.Need-sub-sum Inv-loop μ-loop
+sub-sum c = search needs
+
+-- src/lib.rt:28:15
+add-sum : tie.Need-add-sum Inv-loop μ-loop
+add-sum c = search needs
+
+-- src/lib.rt:29:9
+add-j : tie.Need-add-j Inv-loop μ-loop
+add-j c = search needs
+
+-- src/lib.rt:25:5
+loop-less : tie.Need-loop-less Inv-loop μ-loop
+loop-less c = search needs
+
+-- src/lib.rt:25:5
+loop-again : tie.Need-loop-again Inv-loop μ-loop
+loop-again c = step (c .before .before .before .before .pre) (c .before .before .before .loop .inv) (c .before .before .loop-test .taken) (c .before .next-term .ensures .0) (c .next-term2 .ensures .0)
+
+-- src/lib.rt:18:1
+returns : tie.Need-returns Inv-loop μ-loop
+returns c =
+    let e : c .before .loop .j ≡ 6 = omega arith in
+    (c .before .loop .inv .at-sum ∙ ap (turns _) e, c .before .loop .inv .high)
+
+pub series-spec : {M : Type 1} → statement M
+series-spec =
+    tie.close
+    (tie.spec
+    Inv-loop
+    μ-loop
+    loop-holds
+    mul-next-term
+    add-next-term
+    mul-next-term-2
+    next-term-requires
+    mul-next-term-3
+    add-next-term-2
+    mul-next-term-4
+    next-term-requires-2
+    sub-sum
+    add-sum
+    add-j
+    loop-less
+    loop-again
+    returns)

@@ -1,0 +1,68 @@
+-- The kinds of entries, their limits, and which kind stands at an entry's place.
+use mathlib.Core.Bool.{Bool, true, false, cond}
+use Prim.Native.Nat.{ℕ, zero, suc, _-_, _%_, _≤_}
+use lib.Dec.{leb, ltb}
+use Rattle.kinds.specs.declared.Limits.{Limits}
+use Rattle.kinds.specs.declared.Group.{Group}
+use Rattle.kinds.specs.declared.Group.the-variants.{Left, Through, Right}
+use Rattle.kinds.specs.declared.Kind.{Kind}
+use Rattle.kinds.specs.declared.Kind.the-variants.{Lanes, Volume, IdealFlow, LostTime, MinimumGreen, SharedLane, Pedestrians, PushButton, PedestrianTime, FreeRight, Cycle}
+
+infix 40 _to_usually_
+abbrev pub _to_usually_ : ℕ → ℕ → ℕ → Limits
+least to most usually usual = record { least = least; most = most; usual = usual }
+
+-- the limits of each kind, in the entries' order; "default flows (1,900)", and the other usual values as the book advises
+abbrev pub limitsOf : Kind → Limits
+limitsOf Lanes = 0 to 6 usually 0
+limitsOf Volume = 0 to 9999 usually 0
+limitsOf IdealFlow = 1000 to 2400 usually 1900
+limitsOf LostTime = 0 to 20000 usually 4000
+limitsOf MinimumGreen = 0 to 60000 usually 4000
+limitsOf SharedLane = 0 to 1 usually 0
+limitsOf Pedestrians = 0 to 2000 usually 0
+limitsOf PushButton = 0 to 1 usually 0
+limitsOf PedestrianTime = 0 to 60000 usually 0
+limitsOf FreeRight = 0 to 1 usually 0
+limitsOf Cycle = 30 to 240 usually 120
+
+abbrev pub mostOf : Kind → ℕ
+mostOf k = limitsOf k .most
+
+-- an entry of this kind is "in range"
+unfoldable pub inRange : Kind → ℕ → Bool
+inRange k x = cond (leb (limitsOf k .least) x) (leb x (limitsOf k .most)) false
+
+-- the same as two facts, for those who lean on it
+pub record Within (k : Kind) (x : ℕ) : Type 0 where
+  pub least : limitsOf k .least ≤ x
+  pub most : x ≤ limitsOf k .most
+
+-- the five entries of a movement, in order
+abbrev pub movementKind : ℕ → Kind
+movementKind zero = Lanes
+movementKind (suc zero) = Volume
+movementKind (suc (suc zero)) = IdealFlow
+movementKind (suc (suc (suc zero))) = LostTime
+movementKind (suc (suc (suc (suc n)))) = MinimumGreen
+
+-- the five entries of an approach, in order
+abbrev pub approachKind : ℕ → Kind
+approachKind zero = SharedLane
+approachKind (suc zero) = Pedestrians
+approachKind (suc (suc zero)) = PushButton
+approachKind (suc (suc (suc zero))) = PedestrianTime
+approachKind (suc (suc (suc (suc n)))) = FreeRight
+
+-- "Movement m has entries 5m to 5m+4", "approach a has 60+5a onward", "entry 80 is the cycle"
+unfoldable pub kindAt : ℕ → Kind
+kindAt i = cond (ltb i 60) (movementKind (i % 5)) (cond (ltb i 80) (approachKind ((i - 60) % 5)) Cycle)
+
+-- "movements 0 to 11 are left, through, right of each"
+abbrev pub groupAt : ℕ → Group
+groupAt zero = Left
+groupAt (suc zero) = Through
+groupAt (suc (suc n)) = Right
+
+abbrev pub groupOf : ℕ → Group
+groupOf m = groupAt (m % 3)

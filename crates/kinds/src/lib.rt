@@ -1,0 +1,316 @@
+// The kinds of entries: each is a type that knows its limits and its usual value.
+//
+// A limit is typed here, at its kind, and everything else asks the kind.
+ghost use mathlib.Core.Path.{_≡_};
+ghost use Prim.Native.Nat.{_<_};
+ghost use Rattle.kinds.specs.Kinds.{limitsOf, inRange, movementKind, approachKind, kindAt, groupAt, groupOf};
+
+use units::Ms;
+use units::Vph;
+
+// From, to, and the value that is usual.
+pub struct Limits {
+    pub least: u32,
+    pub most: u32,
+    pub usual: u32,
+}
+
+// Lanes of a movement.
+pub struct Lanes(pub u32);
+
+impl Lanes {
+    pub const LIMITS: Limits = Limits {
+        least: 0,
+        most: 6,
+        usual: 0,
+    };
+
+    pub fn usual() -> Lanes
+        ensures { λ r. ⌜ r .0 ≡ limitsOf Kind.Lanes .usual ⌝ }
+    {
+        Lanes(Lanes::LIMITS.usual)
+    }
+}
+
+// Vehicles per hour of a movement.
+pub struct Volume(pub Vph);
+
+impl Volume {
+    pub const LIMITS: Limits = Limits {
+        least: 0,
+        most: 9_999,
+        usual: 0,
+    };
+
+    pub fn usual() -> Volume
+        ensures { λ r. ⌜ r .0 .0 ≡ limitsOf Kind.Volume .usual ⌝ }
+    {
+        Volume(Vph(Volume::LIMITS.usual))
+    }
+}
+
+// Ideal flow of one lane of a movement.
+pub struct IdealFlow(pub Vph);
+
+impl IdealFlow {
+    pub const LIMITS: Limits = Limits {
+        least: 1_000,
+        most: 2_400,
+        usual: 1_900,
+    };
+
+    pub fn usual() -> IdealFlow
+        ensures { λ r. ⌜ r .0 .0 ≡ limitsOf Kind.IdealFlow .usual ⌝ }
+    {
+        IdealFlow(Vph(IdealFlow::LIMITS.usual))
+    }
+}
+
+// Time that a movement loses as it starts and clears.
+pub struct LostTime(pub Ms);
+
+impl LostTime {
+    pub const LIMITS: Limits = Limits {
+        least: 0,
+        most: 20_000,
+        usual: 4_000,
+    };
+
+    pub fn usual() -> LostTime
+        ensures { λ r. ⌜ r .0 .0 ≡ limitsOf Kind.LostTime .usual ⌝ }
+    {
+        LostTime(Ms(LostTime::LIMITS.usual))
+    }
+}
+
+// The least green of a movement.
+pub struct MinimumGreen(pub Ms);
+
+impl MinimumGreen {
+    pub const LIMITS: Limits = Limits {
+        least: 0,
+        most: 60_000,
+        usual: 4_000,
+    };
+
+    pub fn usual() -> MinimumGreen
+        ensures { λ r. ⌜ r .0 .0 ≡ limitsOf Kind.MinimumGreen .usual ⌝ }
+    {
+        MinimumGreen(Ms(MinimumGreen::LIMITS.usual))
+    }
+}
+
+// 1 where the approach has a lane shared by left and through.
+pub struct SharedLane(pub u32);
+
+impl SharedLane {
+    pub const LIMITS: Limits = Limits {
+        least: 0,
+        most: 1,
+        usual: 0,
+    };
+
+    pub fn usual() -> SharedLane
+        ensures { λ r. ⌜ r .0 ≡ limitsOf Kind.SharedLane .usual ⌝ }
+    {
+        SharedLane(SharedLane::LIMITS.usual)
+    }
+}
+
+// Pedestrians per hour who cross with the approach's through.
+pub struct Pedestrians(pub u32);
+
+impl Pedestrians {
+    pub const LIMITS: Limits = Limits {
+        least: 0,
+        most: 2_000,
+        usual: 0,
+    };
+
+    pub fn usual() -> Pedestrians
+        ensures { λ r. ⌜ r .0 ≡ limitsOf Kind.Pedestrians .usual ⌝ }
+    {
+        Pedestrians(Pedestrians::LIMITS.usual)
+    }
+}
+
+// 1 where those pedestrians have a button.
+pub struct PushButton(pub u32);
+
+impl PushButton {
+    pub const LIMITS: Limits = Limits {
+        least: 0,
+        most: 1,
+        usual: 0,
+    };
+
+    pub fn usual() -> PushButton
+        ensures { λ r. ⌜ r .0 ≡ limitsOf Kind.PushButton .usual ⌝ }
+    {
+        PushButton(PushButton::LIMITS.usual)
+    }
+}
+
+// Time that those pedestrians take to cross.
+pub struct PedestrianTime(pub Ms);
+
+impl PedestrianTime {
+    pub const LIMITS: Limits = Limits {
+        least: 0,
+        most: 60_000,
+        usual: 0,
+    };
+
+    pub fn usual() -> PedestrianTime
+        ensures { λ r. ⌜ r .0 .0 ≡ limitsOf Kind.PedestrianTime .usual ⌝ }
+    {
+        PedestrianTime(Ms(PedestrianTime::LIMITS.usual))
+    }
+}
+
+// 1 where the right turn leaves into a lane of its own.
+pub struct FreeRight(pub u32);
+
+impl FreeRight {
+    pub const LIMITS: Limits = Limits {
+        least: 0,
+        most: 1,
+        usual: 0,
+    };
+
+    pub fn usual() -> FreeRight
+        ensures { λ r. ⌜ r .0 ≡ limitsOf Kind.FreeRight .usual ⌝ }
+    {
+        FreeRight(FreeRight::LIMITS.usual)
+    }
+}
+
+// The reference cycle, in seconds.
+pub struct Cycle(pub u32);
+
+impl Cycle {
+    pub const LIMITS: Limits = Limits {
+        least: 30,
+        most: 240,
+        usual: 120,
+    };
+
+    pub fn usual() -> Cycle
+        ensures { λ r. ⌜ r .0 ≡ limitsOf Kind.Cycle .usual ⌝ }
+    {
+        Cycle(Cycle::LIMITS.usual)
+    }
+}
+
+pub enum Kind {
+    Lanes,
+    Volume,
+    IdealFlow,
+    LostTime,
+    MinimumGreen,
+    SharedLane,
+    Pedestrians,
+    PushButton,
+    PedestrianTime,
+    FreeRight,
+    Cycle,
+}
+
+impl Kind {
+    pub fn limits(self) -> Limits
+        ensures { λ r. ⌜ (r .least ≡ limitsOf self .least) × (r .most ≡ limitsOf self .most) × (r .usual ≡ limitsOf self .usual) ⌝ }
+    {
+        match self {
+            Kind::Lanes => Lanes::LIMITS,
+            Kind::Volume => Volume::LIMITS,
+            Kind::IdealFlow => IdealFlow::LIMITS,
+            Kind::LostTime => LostTime::LIMITS,
+            Kind::MinimumGreen => MinimumGreen::LIMITS,
+            Kind::SharedLane => SharedLane::LIMITS,
+            Kind::Pedestrians => Pedestrians::LIMITS,
+            Kind::PushButton => PushButton::LIMITS,
+            Kind::PedestrianTime => PedestrianTime::LIMITS,
+            Kind::FreeRight => FreeRight::LIMITS,
+            Kind::Cycle => Cycle::LIMITS,
+        }
+    }
+
+    // The kind of a movement's entry, by its place among the movement's five.
+    fn of_movement(place: usize) -> Kind
+        requires { ⌜ place < 5 ⌝ }
+        ensures { λ r. ⌜ r ≡ movementKind place ⌝ }
+    {
+        match place {
+            0 => Kind::Lanes,
+            1 => Kind::Volume,
+            2 => Kind::IdealFlow,
+            3 => Kind::LostTime,
+            _ => Kind::MinimumGreen,
+        }
+    }
+
+    // The kind of an approach's own entry, by its place among the approach's five.
+    fn of_approach(place: usize) -> Kind
+        requires { ⌜ place < 5 ⌝ }
+        ensures { λ r. ⌜ r ≡ approachKind place ⌝ }
+    {
+        match place {
+            0 => Kind::SharedLane,
+            1 => Kind::Pedestrians,
+            2 => Kind::PushButton,
+            3 => Kind::PedestrianTime,
+            _ => Kind::FreeRight,
+        }
+    }
+
+    // The kind that stands at an entry's place.
+    pub fn at(entry: usize) -> Kind
+        ensures { λ r. ⌜ r ≡ kindAt entry ⌝ }
+    {
+        if entry < 60 {
+            return Kind::of_movement(entry % 5);
+        }
+        if entry < 80 {
+            return Kind::of_approach((entry - 60) % 5);
+        }
+        Kind::Cycle
+    }
+
+    // Whether the value lies within the kind's limits.
+    pub fn holds(self, value: u32) -> bool
+        ensures { λ r. ⌜ r ≡ inRange self value ⌝ }
+    {
+        let limits = self.limits();
+        if value < limits.least {
+            return false;
+        }
+        value <= limits.most
+    }
+}
+
+// The three movements of an approach.
+pub enum Group {
+    Left,
+    Through,
+    Right,
+}
+
+impl Group {
+    fn at(place: usize) -> Group
+        requires { ⌜ place < 3 ⌝ }
+        ensures { λ r. ⌜ r ≡ groupAt place ⌝ }
+    {
+        match place {
+            0 => Group::Left,
+            1 => Group::Through,
+            _ => Group::Right,
+        }
+    }
+
+    // The group of a movement.
+    pub fn of(movement: usize) -> Group
+        ensures { λ r. ⌜ r ≡ groupOf movement ⌝ }
+    {
+        Group::at(movement % 3)
+    }
+}

@@ -1,0 +1,72 @@
+-- An approach: its three movements and its own entries, and how they are read from the 81 entries.
+use mathlib.Core.Bool.{Bool}
+use mathlib.Core.List.{List}
+use Prim.Native.Nat.{ℕ}
+use lib.Dec.{eqb}
+use Rattle.kinds.specs.declared.Group.{Group}
+use Rattle.kinds.specs.declared.Group.the-variants.{Left, Through, Right}
+use Rattle.entries.specs.Layout.{left, through, right, movementEntry, approachEntry}
+use Rattle.procedure.specs.declared.Movement.{Movement}
+use Rattle.procedure.specs.declared.Approach.{Approach}
+
+-- "Movement m has entries 5m to 5m+4"
+unfoldable pub readMovement : List ℕ → ℕ → Movement
+readMovement e m =
+    record
+      { lanes = record { 0 = movementEntry e m 0 }
+      ; volume = record { 0 = record { 0 = movementEntry e m 1 } }
+      ; ideal = record { 0 = record { 0 = movementEntry e m 2 } }
+      ; lost = record { 0 = record { 0 = movementEntry e m 3 } }
+      ; green = record { 0 = record { 0 = movementEntry e m 4 } }
+      }
+
+-- "Approach a has 60+5a onward"
+unfoldable pub readApproach : List ℕ → ℕ → Approach
+readApproach e a =
+    record
+      { left = readMovement e (left a)
+      ; through = readMovement e (through a)
+      ; right = readMovement e (right a)
+      ; shared = record { 0 = approachEntry e a 0 }
+      ; walkers = record { 0 = approachEntry e a 1 }
+      ; button = record { 0 = approachEntry e a 2 }
+      ; crossing = record { 0 = record { 0 = approachEntry e a 3 } }
+      ; free = record { 0 = approachEntry e a 4 }
+      }
+
+abbrev pub movementOf : Approach → Group → Movement
+movementOf s Left = s .left
+movementOf s Through = s .through
+movementOf s Right = s .right
+
+-- "n, v, i are the movement's entries", of a group of the approach
+abbrev pub n : Approach → Group → ℕ
+n s g = movementOf s g .lanes .0
+
+abbrev pub v : Approach → Group → ℕ
+v s g = movementOf s g .volume .0 .0
+
+abbrev pub i : Approach → Group → ℕ
+i s g = movementOf s g .ideal .0 .0
+
+abbrev pub lost : Approach → Group → ℕ
+lost s g = movementOf s g .lost .0 .0
+
+abbrev pub green : Approach → Group → ℕ
+green s g = movementOf s g .green .0 .0
+
+-- the approach's own: pedestrians p, whether it is shared, has a button, has a free right
+abbrev pub p : Approach → ℕ
+p s = s .walkers .0
+
+abbrev pub crossing : Approach → ℕ
+crossing s = s .crossing .0 .0
+
+abbrev pub isShared : Approach → Bool
+isShared s = eqb (s .shared .0) 1
+
+abbrev pub hasButton : Approach → Bool
+hasButton s = eqb (s .button .0) 1
+
+abbrev pub isFree : Approach → Bool
+isFree s = eqb (s .free .0) 1

@@ -1,0 +1,6 @@
+pub mod Approach
+pub mod Lines
+pub mod Pairs
+pub mod Sheet
+pub mod Ranges
+pub mod Junctions

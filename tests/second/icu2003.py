@@ -1,0 +1,645 @@
+"""ICU 2003 worked out a second time, in plain Python, to compare with the proved worksheet.
+
+Written from the rules alone. Whole numbers only: flows in vehicles per hour, factors and
+shares in ten-thousandths, times in milliseconds, the cycle in seconds.
+"""
+
+BLANK = 4294967295  # stands where an option is not allowed
+
+L, T, R = 0, 1, 2  # the three groups of an approach
+OPENING = b"ICUS"
+MOST_SITES = 180
+BLOCK = 324  # bytes of one site in a study file: 81 numbers of four bytes
+
+
+def up(n, d):
+    """n/d rounded up."""
+    return -(-n // d)
+
+
+# ---------------------------------------------------------------- the 81 entries
+
+MOVEMENT_LIMITS = ((0, 6), (0, 9999), (1000, 2400), (0, 20000), (0, 60000))
+APPROACH_LIMITS = ((0, 1), (0, 2000), (0, 1), (0, 60000), (0, 1))
+CYCLE_LIMITS = (30, 240)
+
+
+def limits(entry):
+    """Least and largest value of an entry."""
+    if entry < 60:
+        return MOVEMENT_LIMITS[entry % 5]
+    if entry < 80:
+        return APPROACH_LIMITS[entry % 5]
+    return CYCLE_LIMITS
+
+
+class Leg:
+    """One approach: its entries under names, and its lines as they are worked out."""
+
+    def __init__(self, entries, a):
+        groups = [entries[15 * a + 5 * g:15 * a + 5 * g + 5] for g in (L, T, R)]
+        self.n = [group[0] for group in groups]
+        self.v = [group[1] for group in groups]
+        self.ideal = [group[2] for group in groups]
+        self.lost = [group[3] for group in groups]
+        self.minimum = [group[4] for group in groups]
+        self.shared, self.p, self.button, self.ped_time, self.free = entries[60 + 5 * a:65 + 5 * a]
+        self.cl = entries[80]
+        self.line = [None] * 29  # line k at index k
+        self.oncoming = None
+
+
+# ---------------------------------------------------------------- refusals
+
+def range_place(entries):
+    """Lowest entry outside its range, or None."""
+    for entry in range(81):
+        least, largest = limits(entry)
+        if not least <= entries[entry] <= largest:
+            return entry
+    return None
+
+
+def shared_place(entries):
+    """Lowest approach whose shared lane cannot be, or None."""
+    for a in range(4):
+        leg = Leg(entries, a)
+        if leg.shared == 1 and (leg.n[L] > 0 or leg.n[T] == 0):
+            return a
+    return None
+
+
+def nolane_place(entries):
+    """Lowest movement that has volume and no lane to stand in, or None."""
+    for a in range(4):
+        leg = Leg(entries, a)
+        if leg.v[L] > 0 and leg.n[L] == 0 and leg.shared == 0:
+            return 3 * a + L
+        if leg.v[T] > 0 and leg.n[T] == 0:
+            return 3 * a + T
+        if leg.v[R] > 0 and leg.n[R] == 0 and leg.n[T] == 0:
+            return 3 * a + R
+    return None
+
+
+def judge(entries):
+    """(number, place) of the first refusal that applies, (0, 0) if there is none."""
+    if len(entries) != 81:
+        return (1, 0)
+    for number, search in ((3, range_place), (4, shared_place), (5, nolane_place)):
+        place = search(entries)
+        if place is not None:
+            return (number, place)
+    return (0, 0)
+
+
+# ---------------------------------------------------------------- words the lines share
+
+LANE_FACTORS = ((1000, 971), (1000, 952, 908), (1000, 885))  # of L, T, R; the last goes on
+
+
+def lane_factor(g, n):
+    """Lane factor of n lanes (at least 1) of group g, in thousandths."""
+    table = LANE_FACTORS[g]
+    return table[min(n, len(table)) - 1]
+
+
+def flow(leg, g, n, f):
+    """Saturated flow of n lanes of group g with turning factor f."""
+    if n == 0:
+        return 0
+    return leg.ideal[g] * n * lane_factor(g, n) * f // 10**7
+
+
+def folded_right(leg):
+    """a: the right volume that travels in the through lanes."""
+    return leg.v[R] if leg.n[R] == 0 else 0
+
+
+def folded_left(leg):
+    """b: the left volume that travels in the shared lane."""
+    return leg.v[L] if leg.shared else 0
+
+
+def v_st(leg):
+    """vST: the T volume without the folded lefts."""
+    return leg.line[2] - folded_left(leg)
+
+
+def empty(leg):
+    """Neither L nor T has volume."""
+    return leg.line[1] == 0 and leg.line[2] == 0
+
+
+def serve(leg, v, s):
+    """Time in which v vehicles an hour pass at flow s; nothing for nobody, even without lanes."""
+    return up(1000 * v * leg.cl, s) if v > 0 else 0
+
+
+def interference(leg):
+    """G: the time the crossing pedestrians hold up right turns."""
+    still_clear = 8 * decay(leg.p * (leg.cl - 8)) + 16 * decay(4 * leg.p)
+    return 24000 - still_clear // 10**6
+
+
+def weighted(leg, time):
+    """Lost time, and the time stretched for pedestrians as often as they come."""
+    without = max(leg.minimum[T], time)
+    with_peds = max(without, leg.ped_time)
+    return leg.lost[T] + without + up((with_peds - without) * leg.line[12], 10000)
+
+
+def single(leg):
+    """One lane for everything, and lefts among what stands in it."""
+    return leg.n == [0, 1, 0] and leg.shared == 1 and leg.v[L] > 0
+
+
+# ---------------------------------------------------------------- lines 1 to 28 of an approach
+
+def line_1(leg):
+    """Volume of group L."""
+    return 0 if leg.shared else leg.v[L]
+
+
+def line_2(leg):
+    """Volume of group T, called vC."""
+    return leg.v[T] + folded_left(leg) + folded_right(leg)
+
+
+def line_3(leg):
+    """Volume of group R."""
+    return leg.v[R] if leg.n[R] > 0 else 0
+
+
+def line_4(leg):
+    """Turning factor fT of group T: one division of the whole product."""
+    v_c = leg.line[2]
+    if v_c == 0:
+        return 10000
+    return (100 * v_c - 15 * folded_right(leg)) * (100 * v_c - 5 * folded_left(leg)) // v_c**2
+
+
+def line_5(leg):
+    """Flow of L."""
+    return flow(leg, L, leg.n[L], 9500)
+
+
+def line_6(leg):
+    """Flow of T."""
+    return flow(leg, T, leg.n[T], leg.line[4])
+
+
+def line_7(leg):
+    """Flow of R."""
+    return flow(leg, R, leg.n[R], 8500)
+
+
+def line_8(leg):
+    """sST: flow of T as if no left stood in it."""
+    v = v_st(leg)
+    f = 100 * (100 * v - 15 * folded_right(leg)) // v if v > 0 else 10000
+    return flow(leg, T, leg.n[T], f)
+
+
+def line_9(leg):
+    """sSL: flow of the lefts by themselves; a shared lane counts as one left lane."""
+    return flow(leg, L, 1, 9500) if leg.shared else leg.line[5]
+
+
+def line_10(leg):
+    """Interference of R, with or without right volume."""
+    return interference(leg) if leg.n[R] > 0 else 0
+
+
+def line_11(leg):
+    """Interference of T, in the measure of the rights that stand in it."""
+    if leg.n[R] > 0 or leg.line[2] == 0:
+        return 0
+    return up(interference(leg) * leg.v[R], leg.line[2])
+
+
+def line_12(leg):
+    """F: how often pedestrians call."""
+    if leg.p == 0:
+        return 0
+    if leg.button == 0:
+        return 10000
+    return 10000 - decay(2 * leg.p * leg.cl) // 10**5
+
+
+def line_13(leg):
+    """Reference time of L."""
+    return serve(leg, leg.line[1], leg.line[5])
+
+
+def line_14(leg):
+    """Reference time of T."""
+    if leg.line[2] == 0:
+        return 0
+    return serve(leg, leg.line[2], leg.line[6]) + leg.line[11]
+
+
+def line_15(leg):
+    """Reference time of R."""
+    if leg.line[3] == 0:
+        return 0
+    return serve(leg, leg.line[3], leg.line[7]) + leg.line[10]
+
+
+def line_16(leg):
+    """Adjusted time of L."""
+    return leg.lost[L] + max(leg.minimum[L], leg.line[13]) if leg.line[1] > 0 else 0
+
+
+def line_17(leg):
+    """Adjusted time of T."""
+    return weighted(leg, leg.line[14]) if leg.line[2] > 0 else 0
+
+
+def line_18(leg):
+    """Adjusted time of R."""
+    return leg.lost[R] + max(leg.minimum[R], leg.line[15]) if leg.line[3] > 0 else 0
+
+
+def line_19(leg):
+    """vLL: volume of T's left lane, a left counting as five when drivers choose."""
+    b, v_c = folded_left(leg), leg.line[2]
+    if v_c == 0:
+        return 0
+    return max(b, up(4 * b + v_c, leg.n[T]) - 4 * b)
+
+
+def line_20(leg):
+    """q: share of lefts in that lane."""
+    if leg.line[2] == 0:
+        return 0
+    return up(10**4 * folded_left(leg), leg.line[19])
+
+
+def oncoming_share(leg):
+    """o: share of lefts in what comes towards us, where that is a single lane."""
+    other = leg.oncoming
+    return 10**4 * other.v[L] // other.line[2] if single(other) else 0
+
+
+def equivalents(leg, q):
+    """E: how many through vehicles one left is worth, in ten-thousandths."""
+    num = 5 * 10**8 + 80000 * q - 3 * q**2
+    den = 2 * (10**4 + q) + oncoming_share(leg) * leg.cl
+    return up(num * leg.cl, 10 * den)
+
+
+def line_21(leg):
+    """E of T."""
+    return equivalents(leg, leg.line[20]) if leg.line[2] > 0 else 0
+
+
+def left_lane_flow(s, n, q, e):
+    """sA: flow of the left lane of n lanes with flow s; e may be under 10,000."""
+    factor = 10**12 // (10**8 + q * (e - 10**4))
+    return s * factor // (n * 10**4)
+
+
+def line_22(leg):
+    """sA of T."""
+    if leg.line[2] == 0:
+        return 0
+    return left_lane_flow(leg.line[6], leg.n[T], leg.line[20], leg.line[21])
+
+
+def a_through(leg):
+    """T's value in option A."""
+    if leg.line[2] == 0:
+        return 0
+    left_lane = serve(leg, leg.line[19], leg.line[22]) + leg.line[11]
+    return max(left_lane, serve(leg, leg.line[2], leg.line[6]))
+
+
+def a_left(leg):
+    """L's value in option A: every vehicle in the lane turns, and no pedestrians."""
+    if leg.line[1] == 0:
+        return 0
+    v_ll = up(leg.line[1], leg.n[L])
+    s_a = left_lane_flow(leg.line[5], leg.n[L], 10000, equivalents(leg, 10000))
+    return max(serve(leg, v_ll, s_a), serve(leg, leg.line[1], leg.line[5]))
+
+
+def line_23(leg):
+    """Option A: few lefts, or gaps made by the lefts of a single lane."""
+    if empty(leg):
+        return 0
+    if leg.v[L] >= 60 and not single(leg.oncoming):
+        return BLANK
+    return max(a_through(leg), a_left(leg))
+
+
+def b_through(leg):
+    """The first half of option B; nothing without a T volume, where there may be no flow."""
+    if leg.line[2] == 0:
+        return 0
+    n, s_st = leg.n[T], leg.line[8]
+    s_b = leg.line[6] * (n - 1) // n if leg.shared else leg.line[6]
+    return 8000 + serve(leg, v_st(leg), s_st) - 8000 * s_b // s_st + leg.line[11]
+
+
+def b_left(leg):
+    """The second half of option B; lefts of 0 add nothing."""
+    return 8000 + serve(leg, leg.v[L], leg.line[9]) if leg.v[L] > 0 else 0
+
+
+def line_24(leg):
+    """Option B: little oncoming traffic."""
+    if empty(leg):
+        return 0
+    if v_st(leg.oncoming) > 120:
+        return BLANK
+    return max(b_through(leg), b_left(leg))
+
+
+def line_25(leg):
+    """The lesser of the options that are allowed."""
+    allowed = [time for time in leg.line[23:25] if time != BLANK]
+    return min(allowed) if allowed else BLANK
+
+
+def line_26(leg):
+    """Line 25 weighted."""
+    if empty(leg) or leg.line[25] == BLANK:
+        return leg.line[25]
+    return weighted(leg, leg.line[25])
+
+
+def line_27(leg):
+    """Split: the largest of all together, T without its lefts, and the lefts."""
+    if empty(leg):
+        return 0
+    through = serve(leg, v_st(leg), leg.line[8]) + leg.line[11]
+    return max(leg.line[14], through, serve(leg, leg.v[L], leg.line[9]))
+
+
+def line_28(leg):
+    """Line 27 weighted."""
+    return 0 if empty(leg) else weighted(leg, leg.line[27])
+
+
+LINES = (line_1, line_2, line_3, line_4, line_5, line_6, line_7, line_8, line_9, line_10,
+         line_11, line_12, line_13, line_14, line_15, line_16, line_17, line_18, line_19,
+         line_20, line_21, line_22, line_23, line_24, line_25, line_26, line_27, line_28)
+
+
+# ---------------------------------------------------------------- the decay number
+
+def decay(m):
+    """e^(-m/7200) in billionths."""
+    if m >= 115200:
+        return 0
+    c, r = divmod(m, 7200)
+    term = total = 10**9
+    for k in range(1, 13):
+        term = term * r // (7200 * k)
+        total += term if k % 2 == 0 else -term
+    for _ in range(c):
+        total = total * 367879441 // 10**9
+    return total
+
+
+# ---------------------------------------------------------------- pairs
+
+def protected(one, other):
+    """One approach's lefts with the other's throughs, the worse way round."""
+    if one.shared or other.shared:
+        return BLANK
+    return max(one.line[16] + other.line[17], other.line[16] + one.line[17])
+
+
+def permitted(one, other):
+    """Both approaches at once."""
+    if BLANK in (one.line[26], other.line[26]):
+        return BLANK
+    return max(one.line[26], other.line[26])
+
+
+def split(one, other):
+    """One approach after the other."""
+    return one.line[28] + other.line[28]
+
+
+def pair_cells(one, other):
+    """The three totals of a pair and which of them is picked."""
+    totals = [protected(one, other), permitted(one, other), split(one, other)]
+    return totals + [totals.index(min(totals))]  # index finds the earlier one on a tie
+
+
+# ---------------------------------------------------------------- the last eight
+
+CROSS = (3, 2, 0, 1)  # the through that comes from the left of EBR, WBR, NBR, SBR
+LETTER_ENDS = (550, 640, 730, 820, 910, 1000, 1090)
+
+
+def as_through(leg, pick):
+    """What a cross through takes under its pair's phasing."""
+    return leg.line[(17, 26, 28)[pick]]
+
+
+def as_left(leg, pick):
+    """What an oncoming left takes under its pair's phasing."""
+    return (leg.line[16], 0, leg.line[28])[pick]
+
+
+def right_total(legs, picks, a):
+    """Total of approach a's right turns with what they must wait for."""
+    leg = legs[a]
+    if leg.line[3] == 0:
+        return 0
+    if leg.free:
+        return leg.line[18]
+    cross, facing = CROSS[a], a ^ 1
+    return (leg.line[18] + as_through(legs[cross], picks[cross // 2])
+            + as_left(legs[facing], picks[facing // 2]))
+
+
+def letter(icu):
+    """Letter of an ICU in tenths of a percent, 0 for A to 7 for H."""
+    return sum(1 for end in LETTER_ENDS if icu > end)
+
+
+def last_eight(legs, pairs, cl):
+    """Right totals, combined, required, ICU, letter."""
+    picks = [pair[3] for pair in pairs]
+    rights = [right_total(legs, picks, a) for a in range(4)]
+    combined = sum(pair[pair[3]] for pair in pairs)
+    required = max(rights + [combined])
+    icu = up(required, cl)
+    return rights + [combined, required, icu, letter(icu)]
+
+
+# ---------------------------------------------------------------- the sheet
+
+def worked_legs(entries):
+    """The four approaches with all their lines."""
+    legs = [Leg(entries, a) for a in range(4)]
+    for a, leg in enumerate(legs):
+        leg.oncoming = legs[a ^ 1]
+    for k, line in enumerate(LINES, 1):  # line by line, so that the oncoming lines stand ready
+        for leg in legs:
+            leg.line[k] = line(leg)
+    return legs
+
+
+def fill(entries):
+    """The 209 cells of a fresh sheet. The entries must be acceptable."""
+    refusal = judge(entries)
+    if refusal != (0, 0):
+        raise ValueError("refused: %d at %d" % refusal)
+    legs = worked_legs(entries)
+    pairs = [pair_cells(legs[0], legs[1]), pair_cells(legs[2], legs[3])]
+    sheet = list(entries)
+    for leg in legs:
+        sheet += leg.line[1:]
+    return sheet + pairs[0] + pairs[1] + last_eight(legs, pairs, entries[80])
+
+
+def cell(a, k):
+    """Where line k of approach a stands in the sheet."""
+    return 81 + 28 * a + k - 1
+
+
+# ---------------------------------------------------------------- amendments
+
+ALL_LINES = range(1, 29)
+# What each kind of entry reaches: own lines, lines of the opposite approach.
+MOVEMENT_REACH = (
+    (ALL_LINES, range(21, 27)),   # lanes
+    (ALL_LINES, range(21, 27)),   # volume
+    (ALL_LINES, range(21, 27)),   # ideal flow
+    ((16, 17, 18, 26, 28), ()),   # lost time
+    ((16, 17, 18, 26, 28), ()),   # minimum green
+)
+APPROACH_REACH = (
+    (ALL_LINES, range(21, 27)),                                       # shared lane
+    ((10, 11, 12, 14, 15, 17, 18, 23, 24, 25, 26, 27, 28), ()),       # pedestrians
+    ((12, 17, 26, 28), ()),                                           # button
+    ((17, 26, 28), ()),                                               # pedestrian time
+    ((), ()),                                                         # free right
+)
+
+
+def reach(entry):
+    """Cells that an amendment of this entry works out afresh, the entry itself apart."""
+    if entry == 80:
+        return list(range(81, 209))
+    if entry < 60:
+        a, (own, opposite) = entry // 15, MOVEMENT_REACH[entry % 5]
+    else:
+        a, (own, opposite) = (entry - 60) // 5, APPROACH_REACH[entry % 5]
+    cells = [cell(a, k) for k in own] + [cell(a ^ 1, k) for k in opposite]
+    free_right = entry >= 60 and entry % 5 == 4
+    if not free_right:
+        cells += range(193 + 4 * (a // 2), 197 + 4 * (a // 2))
+    return sorted(cells) + list(range(201, 209))
+
+
+def amend(sheet, entry, value):
+    """Change one entry of a sheet where it stands; (number, place), (0, 0) if accepted."""
+    if len(sheet) != 209:
+        return (1, 0)
+    if entry > 80:
+        return (2, 0)
+    entries = sheet[:81]
+    entries[entry] = value
+    refusal = judge(entries)
+    if refusal != (0, 0):
+        return refusal
+    fresh = fill(entries)
+    sheet[entry] = value
+    for i in reach(entry):
+        sheet[i] = fresh[i]
+    return (0, 0)
+
+
+# ---------------------------------------------------------------- study file and listing
+
+def number_at(data, at):
+    """The four bytes from there on, read as one number."""
+    return int.from_bytes(data[at:at + 4], "little")
+
+
+def block_start(k, j):
+    """Where block j of k stands; block k would start where the file ends."""
+    return 8 + 4 * k + BLOCK * j
+
+
+def study_check(data):
+    """(0, 0) for a well laid out study file, else 6 and the place."""
+    size = len(data)
+    if size < 4:
+        return (6, size)
+    if data[:4] != OPENING:
+        return (6, 0)
+    if size < 8:
+        return (6, size)
+    k = number_at(data, 4)
+    if k > MOST_SITES:
+        return (6, 4)
+    for j in range(k):
+        if size < 12 + 4 * j:
+            return (6, size)
+        if number_at(data, 8 + 4 * j) != block_start(k, j):
+            return (6, 8 + 4 * j)
+    if size != block_start(k, k):
+        return (6, min(size, block_start(k, k)))
+    return (0, 0)
+
+
+def study_site_check(data, site):
+    """Whether the file is good and has the site."""
+    refusal = study_check(data)
+    if refusal == (0, 0) and site >= number_at(data, 4):
+        return (6, 4)
+    return refusal
+
+
+def study_site(data, site):
+    """The bytes of a site's block; none on a refusal."""
+    if study_site_check(data, site) != (0, 0):
+        return data[:0]
+    at = block_start(number_at(data, 4), site)
+    return data[at:at + BLOCK]
+
+
+def study_write(numbers, out):
+    """Write a study of these entries at the start of a bytearray; the rest of it stays."""
+    if len(numbers) % 81 != 0:
+        return (1, 0)
+    k = len(numbers) // 81
+    if k > MOST_SITES:
+        return (6, 0)
+    if len(out) < block_start(k, k):
+        return (6, 4)
+    words = [k] + [block_start(k, j) for j in range(k)] + list(numbers)
+    out[:block_start(k, k)] = OPENING + b"".join(word.to_bytes(4, "little") for word in words)
+    return (0, 0)
+
+
+def block_entries(block):
+    """The 81 numbers of a site's block."""
+    return [number_at(block, 4 * i) for i in range(81)]
+
+
+def site_line(number, entries):
+    """One site's line of the listing."""
+    refusal = judge(entries)
+    if refusal != (0, 0):
+        return "%d R%d %d\n" % ((number,) + refusal)
+    sheet = fill(entries)
+    return "%d %d %s %s%s\n" % (number, sheet[207], "ABCDEFGH"[sheet[208]],
+                                "PMS"[sheet[196]], "PMS"[sheet[200]])
+
+
+def listing(data):
+    """What `iculist` prints for a study file."""
+    refusal = study_check(data)
+    if refusal != (0, 0):
+        return "file R%d %d\n" % refusal
+    return "".join(site_line(j + 1, block_entries(study_site(data, j)))
+                   for j in range(number_at(data, 4)))

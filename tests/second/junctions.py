@@ -1,0 +1,328 @@
+"""Named junctions to run the worksheet on, and the text expected of each.
+
+    python3 tests/second/junctions.py OUTDIR
+
+writes OUTDIR/stdin (81 little-endian 32-bit entries a junction) and OUTDIR/stdout.
+"""
+
+import os
+import sys
+
+sys.dont_write_bytecode = True  # leave no cache beside the sources
+
+import icu2003
+
+
+# ---------------------------------------------------------------- parts
+
+def approach(left=(0, 0), through=(0, 0), right=(0, 0), shared=0, peds=0, button=1,
+             ped_time=16000, free=0, ideal=1900, lost=4000, minimum=4000):
+    """One approach: (lanes, volume) of each movement, and what holds for all three.
+
+    ideal, lost and minimum are one number, or three for left, through, right.
+    """
+    def three(x):
+        return x if isinstance(x, tuple) else (x, x, x)
+
+    movements = []
+    for (lanes, volume), i, t, m in zip((left, through, right),
+                                        three(ideal), three(lost), three(minimum)):
+        movements += [lanes, volume, i, t, m]
+    return {"movements": movements, "rest": [shared, peds, button, ped_time, free]}
+
+
+def junction(eb, wb, nb, sb, cycle=120):
+    """The 81 entries of four approaches and a cycle."""
+    legs = (eb, wb, nb, sb)
+    return ([x for leg in legs for x in leg["movements"]]
+            + [x for leg in legs for x in leg["rest"]] + [cycle])
+
+
+def everywhere(leg, cycle=120):
+    """Four times the same approach."""
+    return junction(leg, leg, leg, leg, cycle)
+
+
+def changed(entries, changes):
+    """The entries with some of them typed differently."""
+    entries = list(entries)
+    for entry, value in changes.items():
+        entries[entry] = value
+    return entries
+
+
+NOTHING = approach()  # a leg that is not there
+PLAIN = approach(left=(1, 100), through=(1, 400))
+SHARED = approach(left=(0, 100), through=(1, 300), right=(0, 100), shared=1)
+K1 = everywhere(PLAIN)
+
+
+# ---------------------------------------------------------------- the rules' own junctions
+
+def k_junctions():
+    """K1 to K10; K5 and K6 are about a letter alone."""
+    with_peds = approach(left=(1, 100), through=(1, 400), peds=60, ped_time=40000)
+
+    def wb_through(v):
+        return junction(PLAIN, approach(left=(1, 100), through=(1, v)), PLAIN, PLAIN)
+
+    def eb_left(v):
+        return junction(approach(left=(1, v), through=(1, 400)), PLAIN, PLAIN, PLAIN)
+
+    return [
+        ("K1", K1),
+        ("K2", everywhere(SHARED)),
+        ("K3", everywhere(with_peds)),
+        ("K4", everywhere(approach(left=(1, 0), through=(1, 0)))),
+        ("K7", wb_through(120)),
+        ("K8", wb_through(121)),
+        ("K9", eb_left(59)),
+        ("K10", eb_left(60)),
+    ]
+
+
+def book_examples():
+    """The two intersections worked in the book's chapter 10."""
+    main_eb = approach((1, 100), (1, 600), (1, 100), button=0)
+    main_wb = approach((1, 100), (1, 500), (1, 100), button=0)
+    first_nb = approach((0, 100), (1, 300), (0, 100), shared=1, button=0)
+    first_sb = approach((0, 100), (1, 200), (0, 100), shared=1, button=0)
+    return [
+        ("book example 1", junction(main_eb, main_wb, first_nb, first_sb)),
+        ("book example 2", junction(
+            approach((1, 250), (2, 500), (1, 300), peds=20),
+            approach((1, 250), (2, 600), (0, 100), peds=20),
+            approach((1, 200), (1, 300), (0, 100), peds=20),
+            approach((1, 175), (1, 200), (0, 100), peds=20))),
+    ]
+
+
+# ---------------------------------------------------------------- which legs and lanes there are
+
+def odd_legs():
+    """Legs that are empty, one way, or carry lefts alone."""
+    bare = approach(ideal=1000, lost=0, minimum=0, ped_time=0)
+    stem = approach(left=(0, 220), through=(1, 0), right=(0, 130), shared=1)
+    return [
+        ("no lanes and no volumes, every entry at its least", everywhere(bare, cycle=30)),
+        ("three legs, the stem one lane of lefts and rights", junction(
+            approach((0, 0), (2, 700), (0, 90)), approach((1, 160), (2, 650)), stem, NOTHING)),
+        ("two one-way streets", junction(
+            approach((0, 0), (3, 1400), (0, 120)), NOTHING,
+            approach((1, 180), (2, 900)), NOTHING)),
+        ("lefts only, no through lane", junction(
+            approach(left=(2, 300), lost=(5000, 6000, 4000), minimum=(4000, 7000, 4000)),
+            approach(through=(1, 80), right=(1, 50)), PLAIN, PLAIN)),
+        ("lefts only, beside an idle through lane", junction(
+            approach(left=(1, 59), through=(1, 0), peds=35, ped_time=20000),
+            approach(left=(1, 70), through=(1, 0)), NOTHING, approach(through=(1, 350)))),
+        ("rights only, with lanes and without", junction(
+            approach(right=(1, 240), peds=15), approach(through=(1, 0), right=(0, 240), peds=15),
+            approach(through=(1, 500)), NOTHING)),
+        ("pedestrians at a leg where nobody drives", junction(
+            approach(through=(1, 0), peds=300, ped_time=30000), NOTHING, PLAIN, PLAIN)),
+    ]
+
+
+def shared_lanes():
+    """Shared left-through lanes, with one and more through lanes."""
+    def lane(v_l, n_t, v_t, v_r=0):
+        return approach(left=(0, v_l), through=(n_t, v_t), right=(0, v_r), shared=1)
+
+    return [
+        ("shared, no lefts", junction(
+            lane(0, 1, 400), lane(0, 2, 500, 60), lane(0, 1, 100), lane(0, 3, 900))),
+        ("shared beside unshared, lefts on one side only", junction(
+            lane(59, 1, 380), PLAIN, lane(90, 1, 90), approach(through=(1, 120)))),
+        ("shared with two through lanes", junction(
+            lane(40, 2, 700, 50), lane(58, 2, 640), lane(59, 2, 30, 89), lane(200, 2, 0, 121))),
+        ("shared, so many lefts that they keep a lane", junction(
+            lane(500, 2, 100), lane(50, 3, 120), lane(9999, 6, 1), lane(59, 6, 120))),
+        ("option B counts the folded rights, not the folded lefts", junction(
+            lane(300, 1, 70, 50), lane(300, 2, 70, 50),
+            lane(300, 1, 71, 50), lane(300, 2, 20, 100))),
+    ]
+
+
+def oncoming_single():
+    """Approaches facing a single lane, and facing what only looks like one."""
+    many = approach(left=(1, 200), through=(2, 500))
+    one = approach(left=(0, 100), through=(1, 200), right=(0, 100), shared=1)
+    with_right = approach(left=(0, 100), through=(1, 200), right=(1, 100), shared=1)
+    two = approach(left=(0, 100), through=(2, 200), right=(0, 100), shared=1)
+    no_lefts = approach(left=(0, 0), through=(1, 300), right=(0, 100), shared=1)
+    own_left = approach(left=(1, 100), through=(1, 200), right=(0, 100))
+    return [
+        ("single against single, unlike volumes", junction(
+            approach((0, 250), (1, 300), (0, 20), shared=1),
+            approach((0, 7), (1, 600), (0, 60), shared=1), one, SHARED)),
+        ("a left lane against a single, both pairs", junction(many, one, one, many)),
+        ("almost single: a right lane; two through lanes", junction(many, with_right, two, many)),
+        ("almost single: no lefts; its own left lane", junction(many, no_lefts, own_left, many)),
+        ("all lefts, both single: a left worth less than a through", everywhere(
+            approach(left=(0, 300), through=(1, 0), shared=1))),
+    ]
+
+
+# ---------------------------------------------------------------- the ends of the ranges
+
+def large():
+    """Many lanes, many vehicles, everything at its most."""
+    slow_eb = approach((0, 9999), (1, 108), (0, 9999), shared=1, peds=2000, ideal=1000, lost=20000)
+    slow_wb = approach((0, 1), (1, 9999), (0, 9999), shared=1, ideal=1000)
+    full = approach((0, 9999), (1, 9999), (0, 9999), shared=1, peds=2000, button=0,
+                    ideal=1000, lost=20000, minimum=60000, ped_time=60000)
+    most = approach((6, 9999), (6, 9999), (6, 9999), peds=2000, ped_time=60000, free=1,
+                    ideal=2400, lost=20000, minimum=60000)
+    return [
+        ("six lanes everywhere", junction(
+            approach((6, 1100), (6, 4000), (6, 1300)), approach((6, 900), (6, 4400), (6, 700)),
+            approach((6, 50), (6, 6000), (6, 20)), approach((6, 1200), (6, 100), (6, 2500)))),
+        ("three and four lanes", junction(
+            approach((3, 800), (4, 2500), (3, 600)), approach((2, 500), (3, 1900), (2, 450)),
+            approach((4, 900), (4, 2000), (0, 300)), approach((3, 59), (3, 1500), (4, 80)))),
+        ("largest volumes, one lane each", everywhere(
+            approach((1, 9999), (1, 9999), (1, 9999)))),
+        ("largest volumes in single lanes, slowest flow", everywhere(full, cycle=240)),
+        ("longest option A", junction(slow_eb, slow_wb, NOTHING, NOTHING, cycle=240)),
+        ("everything at its most", everywhere(most, cycle=240)),
+    ]
+
+
+def cycles_and_flows():
+    """Shortest and longest cycle, slowest and fastest ideal flow."""
+    mixed = approach((1, 80), (2, 500), (1, 90), peds=40)
+    slow = approach((1, 80), (1, 300), (0, 90), peds=10, ideal=1000)
+    fast = approach((2, 380), (2, 900), (1, 190), peds=10, ideal=2400)
+    three = approach((1, 58), (1, 250), (1, 77), ideal=(1000, 1900, 2400), minimum=(0, 9000, 60000))
+    return [
+        ("cycle 30", junction(mixed, PLAIN, SHARED, SHARED, cycle=30)),
+        ("cycle 240", junction(mixed, PLAIN, SHARED, SHARED, cycle=240)),
+        ("ideal flow 1,000 and 2,400", junction(slow, fast, fast, slow)),
+        ("a different flow and minimum for each movement", everywhere(three, cycle=97)),
+    ]
+
+
+# ---------------------------------------------------------------- pedestrians and right turns
+
+def pedestrians():
+    """Pedestrians with and without a button, few and many."""
+    def walked(p, button, ped_time=35000, right=(0, 120)):
+        return approach((1, 90), (1, 330), right, peds=p, button=button, ped_time=ped_time)
+
+    shared = approach((0, 40), (1, 330), (0, 75), shared=1, peds=50, ped_time=45000)
+    return [
+        ("pedestrians without a button", junction(
+            walked(1, 0), walked(60, 0), walked(2000, 0), walked(0, 0))),
+        ("pedestrians with a button", junction(
+            walked(1, 1), walked(60, 1), walked(480, 1, 60000), walked(100, 1, 4000))),
+        ("right lanes without right volume, pedestrians", everywhere(walked(90, 1, right=(1, 0)))),
+        ("pedestrians at shared lanes", everywhere(shared, cycle=90)),
+    ]
+
+
+def right_turns():
+    """Right turns from their own lanes, under each phasing."""
+    busy = approach((1, 120), (2, 300), (1, 700), peds=25)
+    free = approach((1, 120), (2, 300), (1, 700), peds=25, free=1)
+    calm = approach((1, 60), (2, 300))
+    light = approach((0, 90), (1, 110), (1, 400), shared=1)
+    return [
+        ("a right total decides", junction(busy, calm, calm, busy)),
+        ("the same rights free, one of them deciding alone", junction(free, calm, calm, free)),
+        ("rights across permitted and protected pairs", junction(
+            busy, busy, light, light)),
+        ("rights across split pairs", junction(
+            approach((0, 300), (2, 100), (1, 350), shared=1),
+            approach((0, 100), (2, 300), (2, 150), shared=1),
+            approach((0, 10), (2, 400), (1, 333), shared=1),
+            approach((0, 200), (2, 0), (1, 44), shared=1))),
+    ]
+
+
+# ---------------------------------------------------------------- picks, ties, letters
+
+def picks():
+    """Each phasing picked, and picked although another ties with it."""
+    through = approach(left=(1, 0), through=(1, 500))
+    return [
+        ("permitted picked, by option B and by option A", junction(
+            approach((1, 300), (1, 100)), approach((1, 280), (1, 120)), SHARED, SHARED)),
+        ("split picked", junction(
+            approach((0, 400), (2, 300), shared=1), approach((0, 90), (2, 500), shared=1),
+            PLAIN, PLAIN)),
+        ("protected ties with permitted and split", junction(through, NOTHING, through, through)),
+        ("protected ties with split", junction(
+            approach((1, 300), (1, 200)), approach((1, 150), (1, 400)), PLAIN, PLAIN)),
+        ("permitted ties with split", junction(
+            approach((0, 0), (1, 400), shared=1), NOTHING, PLAIN, PLAIN)),
+    ]
+
+
+def letters():
+    """Both sides of the first letter's end: times come from the minimum greens alone."""
+    def needs(ew, ns):
+        return junction(approach(through=(1, 1), lost=0, minimum=ew), NOTHING,
+                        approach(through=(1, 1), lost=0, minimum=ns), NOTHING, cycle=100)
+
+    return [
+        ("ICU 550 exactly", needs(54500, 500)),
+        ("one millisecond over 550", needs(54500, 501)),
+    ]
+
+
+# ---------------------------------------------------------------- refused
+
+def refused():
+    """Entries out of range, impossible shared lanes, volume without a lane."""
+    shared_both = changed(K1, {65: 1, 75: 1})
+    return [
+        ("cycle 29", changed(K1, {80: 29})),
+        ("two entries out of range, bad shared lanes besides", changed(
+            shared_both, {3: 20001, 79: 2})),
+        ("a flow left at 0 where there is no lane", changed(K1, {12: 0})),
+        ("shared lane beside a left lane", shared_both),
+        ("shared lane without a through lane, volumes without lanes", changed(
+            K1, {0: 0, 45: 0, 46: 0, 50: 0, 75: 1})),
+        ("lefts without a lane", changed(K1, {15: 0})),
+        ("throughs without a lane", changed(K1, {35: 0, 50: 0})),
+        ("rights without a lane", changed(K1, {35: 0, 36: 0, 41: 1})),
+    ]
+
+
+def all_junctions():
+    """All (name, entries), in the order they are run."""
+    parts = (k_junctions, book_examples, odd_legs, shared_lanes, oncoming_single, large,
+             cycles_and_flows, pedestrians, right_turns, picks, letters, refused)
+    return [named for part in parts for named in part()]
+
+
+# ---------------------------------------------------------------- the text expected
+
+def expected(number, entries):
+    """What the program prints for one junction."""
+    refusal = icu2003.judge(entries)
+    if refusal != (0, 0):
+        rows = ["R%d %d" % refusal]
+    else:
+        sheet = icu2003.fill(entries)
+        cuts = [81, 109, 137, 165, 193, 197, 201, 209]
+        rows = [" ".join(map(str, sheet[i:j])) for i, j in zip(cuts, cuts[1:])]
+    return "".join(row + "\n" for row in ["junction %d" % number] + rows)
+
+
+def main(outdir):
+    named = all_junctions()
+    os.makedirs(outdir, exist_ok=True)
+    with open(os.path.join(outdir, "stdin"), "wb") as f:
+        for _, entries in named:
+            f.write(b"".join(x.to_bytes(4, "little") for x in entries))
+    with open(os.path.join(outdir, "stdout"), "w", newline="\n") as f:
+        for number, (_, entries) in enumerate(named, 1):
+            f.write(expected(number, entries))
+
+
+if __name__ == "__main__":
+    if len(sys.argv) != 2:
+        sys.exit("usage: junctions.py OUTDIR")
+    main(sys.argv[1])

@@ -1,0 +1,597 @@
+"""Checks of the second calculation against the figures of the rules, and against itself.
+
+    python3 tests/second/selftest.py
+
+The last line is 'N passed, 0 failed'; otherwise the exit status is 1.
+"""
+
+import random
+import sys
+from decimal import Decimal, getcontext
+from fractions import Fraction
+
+sys.dont_write_bytecode = True  # leave no cache beside the sources
+
+import icu2003
+import junctions
+from icu2003 import BLANK, amend, cell, decay, fill, judge, letter, listing, reach
+
+EB, WB, NB, SB = range(4)
+counts = {"passed": 0, "failed": 0}
+
+
+def check(what, got, wanted):
+    """Count one comparison, and say where it fails."""
+    if got == wanted:
+        counts["passed"] += 1
+        return
+    counts["failed"] += 1
+    if isinstance(got, list) and len(got) == len(wanted):  # of long lists, what differs
+        differ = [i for i in range(len(got)) if got[i] != wanted[i]]
+        what += " at %s" % differ
+        got, wanted = [got[i] for i in differ], [wanted[i] for i in differ]
+    print("FAILED %s: got %s, wanted %s" % (what, got, wanted))
+
+
+NAMED = dict(junctions.all_junctions())
+
+
+def sheet_of(name):
+    return fill(NAMED[name])
+
+
+def lines(sheet, a, *which):
+    """Some lines of an approach."""
+    return [sheet[cell(a, k)] for k in which]
+
+
+# ---------------------------------------------------------------- figures of the rules
+
+def check_k1_k2():
+    sheet = sheet_of("K1")
+    for a in range(4):
+        check("K1 left and through", lines(sheet, a, 13, 16, 14, 17), [6649, 10649, 25264, 29264])
+    check("K1 pairs", (sheet[193], sheet[197]), (39913, 39913))
+    check("K1 required, ICU, letter", sheet[206:], [79826, 666, 2])
+    check("K1 picks", (sheet[196], sheet[200]), (0, 0))
+    sheet = sheet_of("K2")
+    for a in range(4):
+        check("K2 lines", lines(sheet, a, 4, 6, 20, 21, 22, 23),
+              [9603, 1824, 2000, 29455, 1312, 45732])
+    for at in (193, 197):
+        check("K2 pair", sheet[at:at + 4], [BLANK, 49732, 73790, 1])
+    check("K2 ICU, letter", sheet[207:], [829, 4])
+
+
+def check_k3_to_k10():
+    check("K3 decay number", decay(2 * 60 * 120), 135335283)
+    for a in range(4):
+        check("K3 F, through", lines(sheet_of("K3"), a, 12, 17), [8647, 42007])
+    sheet = sheet_of("K4")
+    check("K4 ICU, letter, picks", sheet[207:] + [sheet[196], sheet[200]], [0, 0, 0, 0])
+    check("K5 letter", letter(550), 0)
+    check("K6 letter", letter(551), 1)
+    check("K7 line 24", lines(sheet_of("K7"), EB, 24), [25264])
+    check("K8 line 24", lines(sheet_of("K8"), EB, 24), [BLANK])
+    check("K9 line 23", lines(sheet_of("K9"), EB, 23), [118000])
+    check("K10 line 23", lines(sheet_of("K10"), EB, 23), [BLANK])
+    leg = icu2003.worked_legs(NAMED["K9"])[EB]
+    check("K9 E", icu2003.equivalents(leg, 10000), 300000)
+    check("K9 sA", icu2003.left_lane_flow(leg.line[5], 1, 10000, 300000), 60)
+
+
+def check_listing():
+    bad = junctions.changed(junctions.K1, {80: 29})
+    check("listing", listing(study(junctions.K1, bad)), "1 666 C PP\n2 R3 80\n")
+    check("listing of no sites", listing(b"ICUS\0\0\0\0"), "")
+    check("listing of a bad file", listing(b"XY"), "file R6 2\n")
+    check("listing of picks", listing(study(NAMED["K2"], NAMED["split picked"])),
+          "1 829 E MM\n2 786 D SP\n")
+
+
+def check_letters():
+    ends = (550, 640, 730, 820, 910, 1000, 1090)
+    for i, end in enumerate(ends):
+        check("letter at %d" % end, (letter(end), letter(end + 1)), (i, i + 1))
+
+
+def check_layout():
+    entries = NAMED["book example 2"]
+    sheet = fill(entries)
+    check("sheet size", len(sheet), 209)
+    check("entries first", sheet[:81], entries)
+    check("volumes of WB", sheet[81 + 28:81 + 28 + 3], [250, 700, 0])
+    check("corners", (cell(0, 1), cell(3, 28)), (81, 192))
+    text = junctions.expected(1, entries).split("\n")
+    check("text", [len(row.split()) for row in text], [2, 28, 28, 28, 28, 4, 4, 8, 0])
+    check("text of a refused one", junctions.expected(7, NAMED["cycle 29"]), "junction 7\nR3 80\n")
+
+
+# ---------------------------------------------------------------- what the named junctions show
+
+def check_book_examples():
+    sheet = sheet_of("book example 1")
+    check("example 1", sheet[201:], [66553, 68215, 0, 0, 98679, 98679, 823, 4])
+    check("example 1 permitted", lines(sheet, NB, 26) + lines(sheet, SB, 26), [46135, 44473])
+    sheet = sheet_of("book example 2")
+    check("example 2", sheet[201:], [73946, 0, 0, 0, 95161, 95161, 794, 3])
+
+
+def check_named():
+    check("at most 60", len(junctions.all_junctions()) <= 60, True)
+    for name, at, wanted in (
+            ("lefts only, no through lane", 196, 1), ("permitted ties with split", 196, 1),
+            ("permitted picked, by option B and by option A", 196, 1),
+            ("permitted picked, by option B and by option A", 200, 1),
+            ("split picked", 196, 2), ("rights across split pairs", 200, 2),
+            ("ICU 550 exactly", 207, 550), ("one millisecond over 550", 207, 551),
+            ("rights across permitted and protected pairs", 200, 1)):
+        check(name, sheet_of(name)[at], wanted)
+    tie = sheet_of("protected ties with permitted and split")
+    check("three tie", tie[193:197], [35579, 35579, 35579, 0])
+    tie = sheet_of("protected ties with split")
+    check("two tie", (tie[193] == tie[195], tie[194], tie[196]), (True, BLANK, 0))
+    tie = sheet_of("permitted ties with split")
+    check("last two tie", (tie[193], tie[194] == tie[195]), (BLANK, True))
+    right = sheet_of("a right total decides")
+    check("right decides", (right[201] == right[206], right[205] < right[206]), (True, True))
+    check("longest line 23", lines(sheet_of("longest option A"), EB, 23), [185603164])
+    full = sheet_of("largest volumes in single lanes, slowest flow")
+    check("largest split", full[195], 15468508)
+    check("E under 10,000", lines(sheet_of(
+        "all lefts, both single: a left worth less than a through"), EB, 21)[0] < 10000, True)
+    check("G without right volume", [x > 0 for x in lines(sheet_of(
+        "right lanes without right volume, pedestrians"), EB, 10, 15)], [True, False])
+
+
+def check_refusals():
+    check("80 entries", judge(junctions.K1[:80]), (1, 0))
+    for name, wanted in (
+            ("cycle 29", (3, 80)), ("two entries out of range, bad shared lanes besides", (3, 3)),
+            ("a flow left at 0 where there is no lane", (3, 12)),
+            ("shared lane beside a left lane", (4, 1)),
+            ("shared lane without a through lane, volumes without lanes", (4, 3)),
+            ("lefts without a lane", (5, 3)), ("throughs without a lane", (5, 7)),
+            ("rights without a lane", (5, 8))):
+        check(name, judge(NAMED[name]), wanted)
+    for entry in range(81):
+        least, largest = icu2003.limits(entry)
+        for value in {least - 1, largest + 1, BLANK} - {-1}:
+            entries = junctions.changed(junctions.K1, {entry: value})
+            check("entry %d as %d" % (entry, value), judge(entries), (3, entry))
+
+
+# ---------------------------------------------------------------- the decay number
+
+def check_decay():
+    getcontext().prec = 40
+    worst = 0
+    for m in list(range(0, 115200, 97)) + [7199, 7200, 7201, 115199]:
+        exact = (Decimal(-m) / 7200).exp() * 10**9
+        worst = max(worst, abs(exact - decay(m)))
+        check("decay of %d" % m, decay(m), again_decay(m) * 10**9)
+    check("decay within 5 billionths", worst < 5, True)
+    check("decay ends", [decay(m) for m in (0, 7200, 115200, 10**9)], [10**9, 367879441, 0, 0])
+
+
+# ---------------------------------------------------------------- random entries
+
+def pick_volume(rng):
+    return rng.choice((0, 0, 1, 59, 60, 119, 120, 121, 9999, rng.randint(0, 130),
+                       rng.randint(0, 900), rng.randint(0, 9999)))
+
+
+def pick_value(rng, entry):
+    """A value in range, more often than not near an end or in everyday use."""
+    least, largest = icu2003.limits(entry)
+    if entry < 60 and entry % 5 == 0:
+        return rng.choice((0, 0, 1, 1, 1, 2, 2, 3, 4, 6))
+    if entry < 60 and entry % 5 == 1:
+        return pick_volume(rng)
+    return rng.choice((least, largest, rng.randint(least, largest),
+                       min(largest, max(least, rng.choice((1900, 4000, 60, 120))))))
+
+
+def random_entries(rng):
+    """Acceptable entries: what would be refused is taken away again."""
+    entries = [pick_value(rng, entry) for entry in range(81)]
+    for a in range(4):
+        at, shared = 15 * a, 60 + 5 * a
+        if rng.random() < 0.25:  # a lane as singles have it
+            entries[at], entries[at + 5], entries[at + 10], entries[shared] = 0, 1, 0, 1
+        if entries[at] > 0 or entries[at + 5] == 0:
+            entries[shared] = 0
+        if entries[at] == 0 and entries[shared] == 0:
+            entries[at + 1] = 0
+        if entries[at + 5] == 0:
+            entries[at + 6] = 0
+            if entries[at + 10] == 0:
+                entries[at + 11] = 0
+    return entries
+
+
+# ---------------------------------------------------------------- the lines spelled again
+#
+# The same sheet from the book's shapes of the formulas: fractions, seconds and shares,
+# rounded where the rules round. None stands for BLANK. Nothing is taken from icu2003.
+
+MS, SHARE, BILLIONTH = Fraction(1, 1000), Fraction(1, 10000), Fraction(1, 10**9)
+
+
+def down_to(x, unit):
+    return Fraction(Fraction(x) // unit * unit)
+
+
+def up_to(x, unit):
+    return -down_to(-x, unit)
+
+
+def again_decay(m):
+    """e^(-m/7200), each step cut to billionths."""
+    if m >= 16 * 7200:
+        return Fraction(0)
+    rest = Fraction(m % 7200, 7200)
+    terms = [Fraction(1)]
+    for k in range(1, 13):
+        terms.append(down_to(terms[-1] * rest / k, BILLIONTH))
+    value = sum(terms[0::2]) - sum(terms[1::2])
+    for _ in range(m // 7200):
+        value = down_to(value * 367879441 * BILLIONTH, BILLIONTH)
+    return value
+
+
+def again_read(e, a):
+    """An approach's entries under the book's names, times in seconds."""
+    x = {"CL": e[80]}
+    for g, name in enumerate("LTR"):
+        x["n" + name], x["v" + name], x["i" + name], lost, least = e[15 * a + 5 * g:][:5]
+        x["tL" + name], x["tMin" + name] = lost * MS, least * MS
+    x["shared"], x["ped"], x["button"], x["tPed"], x["free"] = e[60 + 5 * a:65 + 5 * a]
+    x["tPed"] *= MS
+    return x
+
+
+def again_flows(x):
+    """Lines 1 to 12."""
+    f_lu = {"L": [0, 1, ".971"], "T": [0, 1, ".952", ".908"], "R": [0, 1, ".885"]}
+    f_lu = {g: [Fraction(f) for f in row] + [Fraction(row[-1])] * 6 for g, row in f_lu.items()}
+    x["vCL"] = 0 if x["shared"] else x["vL"]
+    x["vCR"] = x["vR"] if x["nR"] else 0
+    x["vCT"] = x["vL"] + x["vT"] + x["vR"] - x["vCL"] - x["vCR"]
+    x["vST"] = x["vT"] + x["vR"] - x["vCR"]
+    rights = lambda v: 1 - Fraction(15, 100) * (x["vR"] - x["vCR"]) / v if v else Fraction(1)
+    lefts = lambda v: 1 - Fraction(5, 100) * (x["vL"] - x["vCL"]) / v if v else Fraction(1)
+    x["fT"] = down_to(rights(x["vCT"]) * lefts(x["vCT"]), SHARE)
+    factors = {"L": Fraction(95, 100), "T": x["fT"], "R": Fraction(85, 100)}
+    for g, f in factors.items():
+        x["s" + g] = down_to(x["i" + g] * x["n" + g] * f_lu[g][x["n" + g]] * f, 1)
+    alone = down_to(rights(x["vST"]), SHARE)
+    x["sST"] = down_to(x["iT"] * x["nT"] * f_lu["T"][x["nT"]] * alone, 1)
+    x["sSL"] = down_to(x["iL"] * (x["nL"] + 1) * Fraction(95, 100), 1) if x["shared"] else x["sL"]
+    ped, cl = x["ped"], x["CL"]
+    blocked = 24 - down_to(8 * again_decay(ped * (cl - 8)) + 16 * again_decay(ped * 4), MS)
+    x["intfR"] = blocked if x["nR"] else Fraction(0)
+    x["intfT"] = Fraction(0)
+    if not x["nR"] and x["vCT"]:
+        x["intfT"] = up_to(blocked * x["vR"] / x["vCT"], MS)
+    x["freq"] = 1 - down_to(again_decay(2 * ped * cl), SHARE) if x["button"] else Fraction(1)
+    x["freq"] = x["freq"] if ped else Fraction(0)
+
+
+def again_stretch(x, ref):
+    """Lost time and reference time, for pedestrians as often as they come."""
+    plain = max(x["tMinT"], ref)
+    return x["tLT"] + up_to(plain * (1 - x["freq"]) + max(plain, x["tPed"]) * x["freq"], MS)
+
+
+def again_protected(x):
+    """Lines 13 to 18."""
+    for g in "LTR":
+        x["ref" + g] = x["adj" + g] = Fraction(0)
+        if x["vC" + g]:
+            passing = up_to(x["vC" + g] * x["CL"] / x["s" + g], MS)
+            x["ref" + g] = passing + x.get("intf" + g, 0)
+            x["adj" + g] = x["tL" + g] + max(x["tMin" + g], x["ref" + g])
+    if x["vCT"]:
+        x["adjT"] = again_stretch(x, x["refT"])
+
+
+def again_single(x):
+    lanes = (x["nL"], x["nT"], x["nR"])
+    return lanes == (0, 1, 0) and x["shared"] and x["vL"] > 0
+
+
+def again_left_lane(x, o, g, p_l):
+    """Lines 19 to 22 and the value in line 23, of group g with that share of lefts."""
+    v, n, s, cl = x["vC" + g], x["nT" if g == "T" else "nL"], x["s" + g], x["CL"]
+    if not v:
+        return [0, 0, 0, 0, Fraction(0)]
+    if g == "L":
+        v_ll, p_ll = up_to(Fraction(v, n), 1), Fraction(1)
+    else:
+        v_ll = up_to(v * max(p_l, (p_l * 4 + 1) / n - p_l * 4), 1)
+        p_ll = up_to(p_l * v / v_ll, SHARE)
+    facing = down_to(Fraction(o["vL"], o["vCT"]), SHARE) if again_single(o) else 0
+    top = Fraction(5, 10) + Fraction(8, 10) * p_ll - Fraction(3, 10) * p_ll**2
+    e_l = up_to(top / (2 * (1 + p_ll) / cl + facing), SHARE)
+    s_a = down_to(s * down_to(1 / (1 + p_ll * (e_l - 1)), SHARE) / n, 1)
+    interference = x["intfT"] if g == "T" else 0
+    a = max(up_to(v_ll * cl / s_a, MS) + interference, up_to(Fraction(v * cl, s), MS))
+    return [v_ll, p_ll, e_l, s_a, a]
+
+
+def again_option_b(x):
+    """Line 24 where it is allowed."""
+    halves = [Fraction(0)]
+    if x["vCT"]:
+        n, s = x["nT"], x["sST"]
+        s_b = down_to(x["sT"] * Fraction(n - x["shared"], n), 1)
+        halves.append(8 + up_to(Fraction(x["vST"] * x["CL"]) / s, MS)
+                      - down_to(8 * s_b / s, MS) + x["intfT"])
+    if x["vL"]:
+        halves.append(8 + up_to(Fraction(x["vL"] * x["CL"]) / x["sSL"], MS))
+    return max(halves)
+
+
+def again_permitted_split(x, o):
+    """Lines 19 to 28."""
+    p_l = Fraction(x["vL"] - x["vCL"], x["vCT"]) if x["vCT"] else 0
+    x["vLL"], x["pLL"], x["EL"], x["sA"], a_t = again_left_lane(x, o, "T", p_l)
+    a_l = again_left_lane(x, o, "L", 1)[4]
+    if not x["vCL"] and not x["vCT"]:
+        x["A"] = x["B"] = x["perm"] = x["adjPerm"] = x["split"] = x["adjSplit"] = Fraction(0)
+        return
+    x["A"] = max(a_t, a_l) if x["vL"] < 60 or again_single(o) else None
+    x["B"] = again_option_b(x) if o["vST"] <= 120 else None
+    x["perm"] = min((t for t in (x["A"], x["B"]) if t is not None), default=None)
+    x["adjPerm"] = None if x["perm"] is None else again_stretch(x, x["perm"])
+    by_movement = [up_to(Fraction(v * x["CL"]) / s, MS) if v else Fraction(0)
+                   for v, s in ((x["vST"], x["sST"]), (x["vL"], x["sSL"]))]
+    x["split"] = max(x["refT"], by_movement[0] + x["intfT"], by_movement[1])
+    x["adjSplit"] = again_stretch(x, x["split"])
+
+
+def again_pair(x, o):
+    """The three totals in seconds, and the name of the picked one."""
+    totals = {"protected": None, "permitted": None, "split": x["adjSplit"] + o["adjSplit"]}
+    if not (x["shared"] or o["shared"]):
+        totals["protected"] = max(x["adjL"] + o["adjT"], x["adjT"] + o["adjL"])
+    if x["adjPerm"] is not None and o["adjPerm"] is not None:
+        totals["permitted"] = max(x["adjPerm"], o["adjPerm"])
+    order = list(totals)
+    pick = min((t, order.index(name)) for name, t in totals.items() if t is not None)[1]
+    return totals, order[pick]
+
+
+def again_right(compass, picked, name):
+    """Total of a right turn; what it waits for is written out by name."""
+    cross, facing = {"EB": ("SB", "WB"), "WB": ("NB", "EB"),
+                     "NB": ("EB", "SB"), "SB": ("WB", "NB")}[name]
+    x, c, f = compass[name], compass[cross], compass[facing]
+    if not x["vCR"]:
+        return Fraction(0)
+    through = {"protected": c["adjT"], "permitted": c["adjPerm"], "split": c["adjSplit"]}
+    left = {"protected": f["adjL"], "permitted": 0, "split": f["adjSplit"]}
+    return x["adjR"] + (0 if x["free"] else through[picked[cross]] + left[picked[facing]])
+
+
+def again_cells(x):
+    """The 28 lines of an approach as whole numbers."""
+    blank = lambda t: BLANK if t is None else t * 1000
+    return ([x["vCL"], x["vCT"], x["vCR"], x["fT"] * 10000, x["sL"], x["sT"], x["sR"], x["sST"],
+             x["sSL"], x["intfR"] * 1000, x["intfT"] * 1000, x["freq"] * 10000]
+            + [x[k] * 1000 for k in ("refL", "refT", "refR", "adjL", "adjT", "adjR")]
+            + [x["vLL"], x["pLL"] * 10000, x["EL"] * 10000, x["sA"]]
+            + [blank(x[k]) for k in ("A", "B", "perm", "adjPerm", "split", "adjSplit")])
+
+
+def again(entries):
+    """The 209 cells, spelled again."""
+    names = ("EB", "WB", "NB", "SB")
+    compass = {name: again_read(entries, a) for a, name in enumerate(names)}
+    for x in compass.values():
+        again_flows(x)
+        again_protected(x)
+    eb, wb, nb, sb = (compass[name] for name in names)
+    for x, o in ((eb, wb), (wb, eb), (nb, sb), (sb, nb)):
+        again_permitted_split(x, o)
+    (ew, ew_pick), (ns, ns_pick) = again_pair(eb, wb), again_pair(nb, sb)
+    picked = {"EB": ew_pick, "WB": ew_pick, "NB": ns_pick, "SB": ns_pick}
+    rights = [again_right(compass, picked, name) for name in names]
+    combined = ew[ew_pick] + ns[ns_pick]
+    required = max(rights + [combined])
+    icu = up_to(required / entries[80], MS)
+    grade = next((i for i, end in enumerate((55, 64, 73, 82, 91, 100, 109)) if icu * 100 <= end), 7)
+    cells = list(entries)
+    for x in compass.values():
+        cells += again_cells(x)
+    for totals, pick in ((ew, ew_pick), (ns, ns_pick)):
+        cells += [BLANK if t is None else t * 1000 for t in totals.values()]
+        cells.append(list(totals).index(pick))
+    return cells + [t * 1000 for t in rights + [combined, required, icu]] + [grade]
+
+
+def check_again(rounds):
+    rng = random.Random(2003)
+    for name, entries in junctions.all_junctions():
+        if judge(entries) == (0, 0):
+            check("spelled again: " + name, fill(entries), again(entries))
+    for i in range(rounds):
+        entries = random_entries(rng)
+        check("acceptable", judge(entries), (0, 0))
+        sheet = fill(entries)
+        check("spelled again, random %d" % i, sheet, again(entries))
+        check("cells fit 32 bits", all(0 <= x <= BLANK for x in sheet), True)
+
+
+def again_judge(e):
+    """All refusals that apply, the first in order taken."""
+    found = [(3, i) for i in range(81) if e[i] != min(max(e[i], icu2003.limits(i)[0]),
+                                                      icu2003.limits(i)[1])]
+    for a in range(4):
+        (n_l, n_t, n_r), (v_l, v_t, v_r) = e[15 * a:15 * a + 15:5], e[15 * a + 1:15 * a + 15:5]
+        shared = e[60 + 5 * a]
+        found += [(4, a)] if shared and (n_l or not n_t) else []
+        found += [(5, 3 * a)] if v_l and not (n_l or shared) else []
+        found += [(5, 3 * a + 1)] if v_t and not n_t else []
+        found += [(5, 3 * a + 2)] if v_r and not (n_r or n_t) else []
+    return min(found, default=(0, 0))
+
+
+def check_judge(rounds):
+    rng = random.Random(4)
+    for _ in range(rounds):
+        entries = random_entries(rng)
+        for _ in range(rng.choice((0, 1, 1, 2, 3))):
+            lanes, shared = 5 * rng.randrange(12), 60 + 5 * rng.randrange(4)
+            entry = rng.choice((rng.randrange(81), lanes, shared))
+            fitting = pick_value(rng, entry)
+            entries[entry] = rng.choice((fitting, fitting, fitting, 7, 0, BLANK))
+        check("judge", judge(entries), again_judge(entries))
+
+
+# ---------------------------------------------------------------- amendments
+
+def check_reach(wanted):
+    """Amended sheets equal fresh ones: nothing outside the reach list needed a change."""
+    rng = random.Random(81)
+    accepted, seen = 0, set()
+    while accepted < wanted:
+        entries = random_entries(rng)
+        sheet = fill(entries)
+        for _ in range(6):
+            entry = rng.randrange(81)
+            value = pick_value(rng, entry)
+            before = list(sheet)
+            if amend(sheet, entry, value) == (0, 0):
+                accepted += 1
+                seen.add(entry)
+                amended = before[:entry] + [value] + before[entry + 1:81]
+                check("amend %d" % entry, sheet, fill(amended))
+            else:
+                check("refused amendment writes nothing", sheet, before)
+    check("every entry was amended", len(seen), 81)
+
+
+def check_history(rounds):
+    """On a sheet with any cells, reached ones become fresh and the others stay."""
+    rng = random.Random(209)
+    for _ in range(rounds):
+        sheet = random_entries(rng) + [rng.randrange(BLANK + 1) for _ in range(128)]
+        before, entry = list(sheet), rng.randrange(81)
+        value = before[entry] if rng.random() < 0.3 else pick_value(rng, entry)
+        answer = amend(sheet, entry, value)
+        entries = before[:entry] + [value] + before[entry + 1:81]
+        check("answer", answer, judge(entries))
+        wanted = list(before)
+        if answer == (0, 0):
+            fresh = fill(entries)
+            for i in [entry] + reach(entry):
+                wanted[i] = fresh[i]
+        check("history, entry %d" % entry, sheet, wanted)
+
+
+def check_amend_answers():
+    sheet = fill(junctions.K1)
+    check("208 cells", amend(sheet[:208], 0, 1), (1, 0))
+    check("entry 81", amend(sheet, 81, 1), (2, 0))
+    check("out of range", amend(sheet, 80, 241), (3, 80))
+    check("shared", amend(sheet, 70, 1), (4, 2))
+    check("no lane", amend(sheet, 35, 0), (5, 7))
+    check("nothing written", sheet, fill(junctions.K1))
+    sheet[3] = 20001
+    check("another entry is named", amend(sheet, 80, 90), (3, 3))
+    check("the amended one's old value is not", amend(sheet, 3, 4000), (0, 0))
+    sizes = [len(reach(entry)) for entry in (0, 1, 2, 3, 4, 60, 61, 62, 63, 64, 80)]
+    check("sizes of the reach lists", sizes, [46, 46, 46, 17, 17, 46, 25, 16, 15, 8, 128])
+    check("the opposite approach is reached",
+          (cell(WB, 21) in reach(1), cell(NB, 26) in reach(75)), (True, True))
+
+
+# ---------------------------------------------------------------- study files
+
+def study(*sites):
+    """The bytes of a study file of these sites."""
+    numbers = [x for site in sites for x in site]
+    out = bytearray(8 + 328 * len(sites))
+    assert icu2003.study_write(numbers, out) == (0, 0)
+    return bytes(out)
+
+
+def walked_place(data):
+    """study_check once more, as a walk along the fields."""
+    k = int.from_bytes(data[4:8], "little")
+    fields = [(0, 4, lambda f: f == b"ICUS"), (4, 4, lambda f: k <= 180)]
+    fields += [(8 + 4 * j, 4, lambda f, j=j: int.from_bytes(f, "little") == 8 + 4 * k + 324 * j)
+               for j in range(min(k, 180))]
+    fields.append((8 + 4 * k, 324 * k, lambda f: True))
+    for at, size, right in fields:
+        if len(data) < at + size:
+            return (6, len(data))
+        if not right(data[at:at + size]):
+            return (6, at)
+    return (0, 0) if len(data) == 8 + 328 * k else (6, 8 + 328 * k)
+
+
+def check_study_round_trips(rounds):
+    rng = random.Random(6)
+    for k in [0, 1, 2, 179, 180] + [rng.randrange(180) for _ in range(rounds)]:
+        sites = [[rng.randrange(BLANK + 1) for _ in range(81)] for _ in range(k)]
+        data = study(*sites)
+        check("written file is good", icu2003.study_check(data), (0, 0))
+        back = [icu2003.block_entries(icu2003.study_site(data, j)) for j in range(k)]
+        check("round trip", back, sites)
+        for site in (k, k + 1, BLANK):
+            check("missing site", icu2003.study_site_check(data, site), (6, 4))
+            check("empty part", icu2003.study_site(data, site), b"")
+
+
+def check_study_places():
+    good = study(junctions.K1, NAMED["K2"], NAMED["cycle 29"])
+    for cut in range(len(good)):
+        check("short file", icu2003.study_check(good[:cut]), (6, cut))
+    check("long file", icu2003.study_check(good + b"\0\0"), (6, len(good)))
+    check("short and wrong", icu2003.study_check(b"XY"), (6, 2))
+    check("too many sites", icu2003.study_check(b"ICUS" + (181).to_bytes(4, "little")), (6, 4))
+    check("site of a bad file", icu2003.study_site_check(good[:-1], 7), (6, len(good) - 1))
+    rng = random.Random(7)
+    for _ in range(3000):
+        size = rng.choice((len(good), rng.randrange(30)))
+        data = bytearray(good[:size] + bytes(rng.choice((0, 0, 1))))
+        for _ in range(rng.choice((0, 1, 2))):
+            if data:
+                data[rng.randrange(min(len(data), 24))] = rng.choice((0, 1, 2, 3, 180, 255))
+        data = bytes(data)
+        check("place in %s" % data[:24], icu2003.study_check(data), walked_place(data))
+
+
+def check_study_write():
+    write = icu2003.study_write
+    out = bytearray(b"\7" * 1000)
+    check("80 numbers", write([0] * 80, out), (1, 0))
+    check("181 sites", write([0] * (81 * 181), bytearray(70000)), (6, 0))
+    check("181 sites and no room", write([0] * (81 * 181), bytearray()), (6, 0))
+    check("no room", write([0] * 81, bytearray(335)), (6, 4))
+    check("nothing written", out, bytearray(b"\7" * 1000))
+    check("one site", write(junctions.K1, out), (0, 0))
+    check("bytes past it stay", (out[:336], out[336:]), (study(junctions.K1), b"\7" * 664))
+    old_offset = study(junctions.K1)[8:12]
+    check("no sites", (write([], out), out[:12]), ((0, 0), b"ICUS\0\0\0\0" + old_offset))
+
+
+def main():
+    for part in (check_k1_k2, check_k3_to_k10, check_listing, check_letters, check_layout,
+                 check_book_examples, check_named, check_refusals, check_decay,
+                 check_amend_answers, check_study_places, check_study_write):
+        part()
+    check_again(rounds=3000)
+    check_judge(rounds=4000)
+    check_reach(wanted=8000)
+    check_history(rounds=3000)
+    check_study_round_trips(rounds=10)
+    print("%(passed)d passed, %(failed)d failed" % counts)
+    return 1 if counts["failed"] else 0
+
+
+if __name__ == "__main__":
+    sys.exit(main())
