@@ -85,8 +85,8 @@ module _ (e : List ℕ) (ok : judged e ≡ Accepted) (k : ℕ) (few : k < 4) whe
   serves : (g : Group) → 0 < counted e (movementNo k g) → 0 < lanes e (movementNo k g) + otherLanes e k g
   serves g h = rw (approach-of k g, group-of k g) at (accepted-served e ok (movementNo k g) (movement-few k few g) h)
 
-  shared-through : isShared (readApproach e k) ≡ true → 0 < lanes e (through k)
-  unfolding readApproach
+  shared-through : isShared (readApproach e k) ≡ true → 0 < n (readApproach e k) Through
+  unfolding readApproach readMovement
   shared-through h = accepted-shared e ok k few (eqb-true (shared e k) 1 h) .a-through
 
   served : (g : Group) → 0 < volume (readApproach e k) g → 0 < n (readApproach e k) g

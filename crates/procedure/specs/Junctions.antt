@@ -1,7 +1,12 @@
 -- "Junctions to compare": K1 to K10.
 use mathlib.Core.List.{List, [], _∷_, _++_}
-use Prim.Native.Nat.{ℕ}
-use lib.ListN.{set}
+use Prim.Native.Nat.{ℕ, _*_}
+use lib.ListN.{getD, set}
+use Rattle.decay.specs.Decay.{decayNumber}
+use Rattle.procedure.specs.Approach.{readApproach}
+use Rattle.procedure.specs.Lines.{BLANK, leftShare, equivalent, leftA}
+use Rattle.procedure.specs.Pairs.{line, letterOf}
+use Rattle.procedure.specs.Sheet.{EB, WB, linesAt, sheet}
 
 -- a movement: lanes and volume; "flows 1,900, lost and minimum 4,000"
 abbrev pub movement : ℕ → ℕ → List ℕ
@@ -26,6 +31,10 @@ K1 = alike (movement 1 100 ++ movement 1 400 ++ movement 0 0) 0
 abbrev pub K2 : List ℕ
 K2 = alike (movement 0 100 ++ movement 1 300 ++ movement 0 100) 1
 
+-- "K3: p 60, CL 120, button": K1 with 60 pedestrians and a pedestrian time of 40,000 on EB
+abbrev pub K3 : List ℕ
+K3 = set (set K1 61 60) 63 40_000
+
 -- "K4: K1 without volumes"
 abbrev pub K4 : List ℕ
 K4 = alike (movement 1 0 ++ movement 1 0 ++ movement 0 0) 0
@@ -43,3 +52,60 @@ K9 = set K1 1 59
 
 abbrev pub K10 : List ℕ
 K10 = set K1 1 60
+
+-- EB's lines, and a cell of the sheet
+abbrev pub eb : List ℕ → List ℕ
+eb e = linesAt e EB WB
+
+abbrev pub cell : List ℕ → ℕ → ℕ
+cell e k = getD (sheet e) k 0
+
+-- every number that the paper gives for K1 to K10, worked out: a row for each junction
+abbrev pub workedOut : List (List ℕ)
+workedOut =
+    (line 13 (eb K1) ∷ line 16 (eb K1) ∷ line 14 (eb K1) ∷ line 17 (eb K1) ∷ cell K1 193 ∷ cell K1 206 ∷ cell K1 207 ∷ cell K1 208 ∷ [])
+    ∷ (line 4 (eb K2) ∷ line 6 (eb K2) ∷ line 20 (eb K2) ∷ line 21 (eb K2) ∷ line 22 (eb K2) ∷ line 23 (eb K2)
+        ∷ cell K2 195 ∷ cell K2 194 ∷ cell K2 196 ∷ cell K2 207 ∷ cell K2 208 ∷ [])
+    ∷ (decayNumber (2 * 60 * 120) ∷ line 12 (eb K3) ∷ line 17 (eb K3) ∷ [])
+    ∷ (cell K4 207 ∷ cell K4 208 ∷ cell K4 196 ∷ cell K4 200 ∷ [])
+    ∷ (letterOf 550 ∷ [])
+    ∷ (letterOf 551 ∷ [])
+    ∷ (line 24 (eb K7) ∷ [])
+    ∷ (line 24 (eb K8) ∷ [])
+    ∷ (line 23 (eb K9) ∷ equivalent 10_000 (leftShare (readApproach K9 WB)) 120 ∷ leftA (readApproach K9 EB) (readApproach K9 WB) 120 ∷ [])
+    ∷ (line 23 (eb K10) ∷ [])
+    ∷ []
+
+-- the letters, and the phasings
+abbrev pub A : ℕ
+A = 0
+
+abbrev pub B : ℕ
+B = 1
+
+abbrev pub C : ℕ
+C = 2
+
+abbrev pub letterE : ℕ
+letterE = 4
+
+abbrev pub P : ℕ
+P = 0
+
+abbrev pub M : ℕ
+M = 1
+
+-- and as the paper gives them
+abbrev pub given : List (List ℕ)
+given =
+    (6_649 ∷ 10_649 ∷ 25_264 ∷ 29_264 ∷ 39_913 ∷ 79_826 ∷ 666 ∷ C ∷ [])
+    ∷ (9_603 ∷ 1_824 ∷ 2_000 ∷ 29_455 ∷ 1_312 ∷ 45_732 ∷ 73_790 ∷ 49_732 ∷ M ∷ 829 ∷ letterE ∷ [])
+    ∷ (135_335_283 ∷ 8_647 ∷ 42_007 ∷ [])
+    ∷ (0 ∷ A ∷ P ∷ P ∷ [])
+    ∷ (A ∷ [])
+    ∷ (B ∷ [])
+    ∷ (25_264 ∷ [])
+    ∷ (BLANK ∷ [])
+    ∷ (118_000 ∷ 300_000 ∷ 60 ∷ [])
+    ∷ (BLANK ∷ [])
+    ∷ []

@@ -1,0 +1,84 @@
+-- `study::site_entries`. The size is asked first, then the site; its block is then of the right size.
+use Rattle.study.proofs.Laws.{has-site, length-siteBlock}
+use lib.ListN.{length}
+use Rattle.study.specs.Study.{blockBytes, siteBlock}
+use native.Mathlib.Nat.{add-sub-cancel-left}
+use borrow.Author.Tests.{eq-eqb, ne-eqb}
+use mathlib.Core.Path.{_≡_, sym, _∙_}
+use borrow.Author.Needs.{needs}
+use Rattle.study.proofs.site_entries.Statement.{statement}
+use Rattle.study.proofs.site_entries.Tie as tie
+
+returns : tie.Need-returns
+returns c = let bad = ne-eqb _ _ (c .if1 .taken) in (simp bad, simp bad)
+
+site-answer-requires : tie.Need-site-answer-requires
+site-answer-requires c κs = search needs
+
+enum-told : tie.Need-enum-told
+enum-told c = search needs
+
+enum-told-2 : tie.Need-enum-told-2
+enum-told-2 c = search needs
+
+returns-2 : tie.Need-returns-2
+returns-2 c =
+    let call = c .before .before in
+    let sized = eq-eqb _ _ (call .before .if1 .left) in
+    let is = sym (call .site-answer .ensures) ∙ c .enum-told2 .given .1 in
+    (simp (sized) (call .site-answer .ensures), simp (sized, is))
+
+site-place-requires : tie.Need-site-place-requires
+site-place-requires c κs = sym (c .before .before .site-answer .ensures) ∙ c .enum-told .given .1
+
+add-entries-of : tie.Need-add-entries-of
+add-entries-of c = search needs
+
+sub-entries-of : tie.Need-sub-entries-of
+sub-entries-of c = search needs
+
+part-entries-of-start : tie.Need-part-entries-of-start
+part-entries-of-start c = search needs
+
+part-entries-of-end : tie.Need-part-entries-of-end
+part-entries-of-end c = search needs
+
+entries-of-requires : tie.Need-entries-of-requires
+entries-of-requires c κs = search needs
+
+same-length : tie.Need-same-length
+same-length c = search needs
+
+returns-3 : tie.Need-returns-3
+returns-3 c =
+    let read = c .before .before in
+    let place = read .before .before .before in
+    let told = place .before in
+    let call = told .before .before in
+    let args = call .before .before .before .before .args in
+    let file = args .file .now in
+    let is = sym (call .site-answer .ensures) ∙ told .enum-told .given .1 in
+    let whole : length (siteBlock file (args .site)) ≡ blockBytes = length-siteBlock file (args .site) (has-site file (args .site) is) in
+    let good = eq-eqb (length (siteBlock file (args .site))) blockBytes whole in
+    let sized = eq-eqb _ _ (call .before .if1 .left) in (
+      simp (sized, is) (simp (add-sub-cancel-left, place .site-place .ensures .0, good, sized) at (read .entries-of .ensures .0)),
+      simp (sized, is) (simp (add-sub-cancel-left, place .site-place .ensures .0, good, sized) at (read .entries-of .ensures .1)),
+    )
+
+pub site-entries-spec : {M : Type 1} → statement M
+site-entries-spec =
+    tie.close
+    (tie.spec
+    returns
+    site-answer-requires
+    enum-told
+    enum-told-2
+    returns-2
+    site-place-requires
+    add-entries-of
+    sub-entries-of
+    part-entries-of-start
+    part-entries-of-end
+    entries-of-requires
+    same-length
+    returns-3)

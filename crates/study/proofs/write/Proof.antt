@@ -1,0 +1,94 @@
+-- `study::write`. The refusals in their order, and the four steps that write the file.
+use Rattle.study.proofs.Written.{written}
+use borrow.Author.Tests.{eq-eqb, ne-eqb, lt-ltb, le-ltb}
+use mathlib.Core.Path.{_∙_}
+use borrow.Author.Needs.{needs}
+use Rattle.study.proofs.write.Statement.{statement}
+use Rattle.study.proofs.write.Tie as tie
+
+returns : tie.Need-returns
+returns c = let bad = ne-eqb _ _ (c .if1 .taken) in (simp bad, simp bad)
+
+refused-requires : tie.Need-refused-requires
+refused-requires c κs = search needs
+
+returns-2 : tie.Need-returns-2
+returns-2 c =
+    let sized = eq-eqb _ _ (c .before .before .if1 .left) in
+    let many = lt-ltb _ _ (c .before .if2 .taken) in
+    (c .refused .ensures ∙ simp (sized, many), simp (sized, many))
+
+block-place-requires : tie.Need-block-place-requires
+block-place-requires c κs = search needs
+
+refused-requires-2 : tie.Need-refused-requires-2
+refused-requires-2 c κs = search needs
+
+returns-3 : tie.Need-returns-3
+returns-3 c =
+    let place = c .before .before in
+    let sized = eq-eqb _ _ (place .before .before .if1 .left) in
+    let few = le-ltb _ _ (place .before .if2 .left) in
+    let short = lt-ltb _ _ (rw (place .block-place .ensures) at (c .before .if3 .taken)) in
+    (c .refused2 .ensures ∙ simp (sized, few, short), simp (sized, few, short))
+
+put-opening-requires : tie.Need-put-opening-requires
+put-opening-requires c κs = search needs
+
+cast-write : tie.Need-cast-write
+cast-write c = search needs
+
+write-requires : tie.Need-write-requires
+write-requires c κs = search needs
+
+put-offsets-requires : tie.Need-put-offsets-requires
+put-offsets-requires c κs = search needs
+
+block-place-requires-2 : tie.Need-block-place-requires-2
+block-place-requires-2 c κs = search needs
+
+write-all-requires : tie.Need-write-all-requires
+write-all-requires c κs = search needs
+
+same-length : tie.Need-same-length
+same-length c = search needs
+
+returns-4 : tie.Need-returns-4
+returns-4 c =
+    let all = c .before .before in
+    let offsets = all .before .before .before .before .before in
+    let count = offsets .before .before .before .before in
+    let opened = count .before .before .before .before in
+    let last = opened .before .before in
+    let place = last .before in
+    let limit = place .before in
+    let args = limit .before .before .before .before .args in
+    let sized = eq-eqb _ _ (limit .before .if1 .left) in
+    let few = le-ltb _ _ (limit .if2 .left) in
+    let room = rw (place .block-place .ensures) at (last .if3 .left) in
+    let fits = le-ltb _ _ room in (
+      simp (sized, few, fits),
+      simp (sized, few, fits)
+          (written (args .entries .now) (args .out .now) (limit .before .if1 .left) room (opened .put-opening .ensures) (count .write .ensures)
+          (offsets .put-offsets .ensures)
+          (rw (all .before .block-place2 .ensures) at (all .write-all .ensures))),
+    )
+
+pub write-spec : {M : Type 1} → statement M
+write-spec =
+    tie.close
+    (tie.spec
+    returns
+    refused-requires
+    returns-2
+    block-place-requires
+    refused-requires-2
+    returns-3
+    put-opening-requires
+    cast-write
+    write-requires
+    put-offsets-requires
+    block-place-requires-2
+    write-all-requires
+    same-length
+    returns-4)
