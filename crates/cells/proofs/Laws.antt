@@ -1,10 +1,10 @@
 -- Copying a run cell by cell puts it over the list.
 use mathlib.Core.Path.{_≡_, refl, sym, _∙_, ap}
-use mathlib.Core.List.{List, [], _∷_, _++_, append-assoc}
+use mathlib.Core.List.{List, [], _∷_, _++_, append-assoc, append-nil}
 use Prim.Native.Nat.{ℕ, suc, _+_, _≤_, _<_}
 use native.Mathlib.Numerals.{add-one}
 use native.Mathlib.Omega.{arith}
-use lib.ListN.{length, getD, set, take, drop}
+use lib.ListN.{length, getD, set, take, drop, drop-of-length-le}
 use lib.Seq.{take-suc, set-split, take-length, length-take-le}
 use Rattle.words.specs.Words.{over}
 use Rattle.words.proofs.Laws.{length-over, over-nothing, over-next}
@@ -43,3 +43,17 @@ pub copied-all :
 copied-all {list} {at} {part} {cells} {i} h c =
     let e : i ≡ length part = omega (arith, c .few) in
     c .is ∙ ap (λ n. over list at (take n part)) e ∙ rw (take-length part)
+
+-- two runs that meet, written one after the other, are one run
+pub over-then :
+    (list : List ℕ) (at : ℕ) {once twice : List ℕ} {next : ℕ} (first second : List ℕ) → once ≡ over list at first → twice ≡ over once next second
+    → at + length first ≡ next → next + length second ≤ length list → twice ≡ over list at (first ++ second)
+over-then list at first second e f meet room =
+    f ∙ rw (e, ← meet) (over-next list at (length first) first second refl (omega arith))
+
+-- a run as long as the list takes its place
+pub over-whole : (list part : List ℕ) → length list ≡ length part → over list 0 part ≡ part
+unfolding over
+over-whole list part e =
+    let past : length list ≤ 0 + length part = omega arith in
+    rw (drop-of-length-le list {i = 0 + length part} past, append-nil part)

@@ -49,3 +49,19 @@ fn gather(v: Volumes, f: Flows, w: Walking, t: Times, lane: Lane, p: Permitted, 
         x.weighted.0,
     ]
 }
+
+// The lines of approach s, with o opposite it.
+pub fn lines_of(s: Approach, o: Approach, cycle: u32) -> [u32; 28]
+    requires { ⌜ Fair s × Fair o × FairCycle cycle ⌝ }
+    ensures { λ r. ⌜ (r ≡ lines s o cycle) × Bounded r ⌝ }
+{
+    let v = flows::volumes_of(s);
+    let f = flows::flows_of(s, v);
+    let w = walkers::walking_of(s, v, cycle);
+    let t = times::times_of(s, v, f, w, cycle);
+    let m = permitted::meeting_of(s, o, flows::volumes_of(o));
+    let lane = lane::lane_of(s, o, v, f, m, cycle);
+    let p = permitted::permitted_of(s, o, v, f, w, m, lane, cycle);
+    let x = split::split_of(s, v, f, w, t, cycle);
+    gather(v, f, w, t, lane, p, x)
+}

@@ -1,0 +1,58 @@
+//! The junctions that are timed: a mix as a town has it, every group in use.
+
+use compare::generate::{Entries, Rng};
+use compare::rules::{self, ACCEPTED, CELLS, CYCLE, ENTRIES};
+
+pub type Sheet = [u32; CELLS];
+
+/// Lanes of left, through, right and the shared flag.
+const SHAPES: [[u32; 4]; 7] = [
+    [0, 1, 0, 1],
+    [0, 2, 0, 1],
+    [0, 2, 1, 1],
+    [1, 1, 0, 0],
+    [1, 2, 1, 0],
+    [2, 3, 1, 0],
+    [0, 0, 0, 0],
+];
+
+fn approach(rng: &mut Rng, e: &mut Entries, a: usize, walkers: bool) {
+    // An empty leg is rarer than any other shape.
+    let last = if rng.once_in(3) { 7 } else { 6 };
+    let lanes = SHAPES[rng.below(last)];
+    let open = u32::from(lanes[1] > 0);
+    let volumes = [rng.within(5, 160), rng.within(60, 420) * lanes[1], rng.within(5, 160) * open];
+    for turn in 0..3 {
+        let volume = volumes[turn] * u32::from(turn > 0 || lanes[0] + lanes[3] > 0);
+        let entries = [lanes[turn], volume, rng.pick(&[1_900, 1_900, 1_850]), 4_000, 4_000];
+        e[15 * a + 5 * turn..][..5].copy_from_slice(&entries);
+    }
+    let crossing = if walkers { rng.within(5, 250) } else { 0 };
+    let button = rng.below(4).min(1) as u32;
+    let free = u32::from(rng.once_in(5));
+    e[60 + 5 * a..][..5].copy_from_slice(&[lanes[3], crossing, button, 16_000, free]);
+}
+
+/// An acceptable junction with or without pedestrians.
+fn junction(rng: &mut Rng, walkers: bool) -> Entries {
+    let mut e = [0; ENTRIES];
+    for a in 0..4 {
+        approach(rng, &mut e, a, walkers);
+    }
+    e[CYCLE] = rng.pick(&[60, 90, 100, 120, 120]);
+    e
+}
+
+pub fn mix(rng: &mut Rng, count: usize, walkers: bool) -> Vec<Entries> {
+    let mix: Vec<_> = (0..count).map(|_| junction(rng, walkers)).collect();
+    assert!(mix.iter().all(|e| rules::judge(e) == ACCEPTED));
+    mix
+}
+
+pub fn sheets(junctions: &[Entries]) -> Vec<Sheet> {
+    let mut sheets = vec![[0; CELLS]; junctions.len()];
+    for (e, sheet) in junctions.iter().zip(&mut sheets) {
+        rules::fill(e, sheet);
+    }
+    sheets
+}

@@ -1,0 +1,109 @@
+//! Times the library beside the plain Rust rules: `bench [ROUNDS]`.
+
+#![forbid(unsafe_code)]
+
+mod junctions;
+mod steps;
+mod timing;
+
+use compare::generate::{laid_out, Entries, Rng};
+use compare::rules::{self, Answer, CELLS, SITES};
+use junctions::Sheet;
+use std::hint::black_box;
+use steps::{Step, KINDS};
+use timing::Work;
+
+type Fill = fn(&[u32], &mut [u32]) -> Answer;
+type Amend = fn(&mut [u32], u32, u32) -> Answer;
+type List = fn(&[u8], &mut [u8], &mut u32) -> Answer;
+
+const FILL: Option<Fill> = {
+    #[cfg(feature = "fill")]
+    let call: Option<Fill> = Some(compare::library::fill);
+    #[cfg(not(feature = "fill"))]
+    let call: Option<Fill> = None;
+    call
+};
+
+const AMEND: Option<Amend> = {
+    #[cfg(feature = "amend")]
+    let call: Option<Amend> = Some(compare::library::amend);
+    #[cfg(not(feature = "amend"))]
+    let call: Option<Amend> = None;
+    call
+};
+
+const LIST: Option<List> = {
+    #[cfg(feature = "study")]
+    let call: Option<List> = Some(compare::library::study_list);
+    #[cfg(not(feature = "study"))]
+    let call: Option<List> = None;
+    call
+};
+
+fn row(name: &str, (library, rust): (Option<f64>, f64)) {
+    match library {
+        Some(library) => println!("{name:<32}{library:>12.1}{rust:>12.1}{:>9.2}", library / rust),
+        None => println!("{name:<32}{:>12}{rust:>12.1}{:>9}", "-", "-"),
+    }
+}
+
+fn filling(call: Fill, mix: &[Entries]) -> Work<'_> {
+    let mut sheet = [0; CELLS];
+    Box::new(move || {
+        let filled = |e: &&Entries| call(black_box(*e), black_box(&mut sheet)) == rules::ACCEPTED;
+        mix.iter().filter(filled).count()
+    })
+}
+
+fn time_fill(name: &str, mix: &[Entries], rounds: usize) {
+    let library = FILL.map(|call| filling(call, mix));
+    row(name, timing::both(library, filling(rules::fill, mix), mix.len(), rounds));
+}
+
+fn amending<'a>(call: Amend, sheets: &'a mut [Sheet], steps: &'a [Step]) -> Work<'a> {
+    Box::new(move || steps::take(sheets, black_box(steps), call))
+}
+
+fn time_amend(name: &str, mix: &[Entries], steps: &[Step], rounds: usize) {
+    let (mut theirs, mut ours) = (junctions::sheets(mix), junctions::sheets(mix));
+    assert_eq!(steps::take(&mut ours, steps, rules::amend), 0, "an amendment was refused");
+    let library = AMEND.map(|call| amending(call, &mut theirs, steps));
+    let rust = amending(rules::amend, &mut ours, steps);
+    row(name, timing::both(library, rust, steps.len(), rounds));
+    // What was timed must also have been right.
+    assert!(theirs == ours, "the sheets differ after {name}");
+}
+
+fn listing(call: List, file: &[u8]) -> Work<'_> {
+    let (mut out, mut length) = (vec![0; 65_536], 0);
+    Box::new(move || {
+        call(black_box(file), black_box(&mut out), &mut length);
+        length as usize
+    })
+}
+
+fn time_list(name: &str, mix: &[Entries], rounds: usize) {
+    let file = laid_out(&mix[..SITES].concat());
+    let library = LIST.map(|call| listing(call, &file));
+    row(name, timing::both(library, listing(rules::study_list, &file), 1, rounds));
+}
+
+fn main() {
+    let rounds = std::env::args().nth(1).and_then(|word| word.parse().ok()).unwrap_or(41);
+    let mut rng = Rng::new(2003);
+    let quiet = junctions::mix(&mut rng, 200, false);
+    let walked = junctions::mix(&mut rng, 200, true);
+    let mix: Vec<Entries> = quiet.iter().zip(&walked).flat_map(|(x, y)| [*x, *y]).collect();
+    println!("{:<32}{:>12}{:>12}{:>9}", "ns per call, medians", "library", "Rust", "ratio");
+    time_fill("fill, no pedestrians", &quiet, rounds);
+    time_fill("fill, pedestrians", &walked, rounds);
+    time_fill("fill, mix", &mix, rounds);
+    for (kind, name) in KINDS.iter().enumerate() {
+        let steps = steps::of_kind(&mut rng, &mix, kind);
+        time_amend(&format!("amend {name}"), &mix, &steps, rounds);
+    }
+    let steps = steps::of_all_kinds(&mut rng, &mix);
+    time_amend("amend, mix of all kinds", &mix, &steps, rounds);
+    time_list("list of 180 sites", &mix, rounds);
+}

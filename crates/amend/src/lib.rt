@@ -1,0 +1,28 @@
+// One entry of a sheet amended.
+ghost use mathlib.Core.Path.{_≡_};
+ghost use Prim.Native.Nat.{_<_};
+ghost use lib.ListN.{length};
+ghost use Rattle.amend.specs.Amend.{entriesWith, entryAnswer, amendAnswer, amended};
+
+use answers::Answer;
+use answers::Refusal;
+
+fn check_entry(entry: u32) -> Answer
+    ensures { λ r. ⌜ r ≡ entryAnswer entry ⌝ }
+{
+    if 80 < entry {
+        return Answer::Refused(Refusal::Entry, 0);
+    }
+    Answer::Accepted
+}
+
+// The entries of a sheet, with one of them changed.
+fn entries_with(sheet: &[u32], entry: usize, value: u32) -> [u32; 81]
+    requires { ⌜ (length (now sheet) ≡ 209) × (entry < 81) ⌝ }
+    ensures { λ r. ⌜ r ≡ entriesWith (now (sheet .entry)) entry value ⌝ }
+{
+    let mut entries = [0u32; 81];
+    cells::put(&mut entries, 0, &sheet[..81]);
+    entries[entry] = value;
+    entries
+}

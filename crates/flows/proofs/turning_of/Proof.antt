@@ -1,0 +1,85 @@
+use native.Mathlib.Nat.{mul-le-mul, mul-pos}
+use native.Mathlib.Omega.{arith}
+use borrow.Author.Tests.{eq-eqb, ne-eqb}
+use Rattle.procedure.specs.Lines.{turningT}
+use Rattle.flows.proofs.Laws.{turning-product, turning-quotient}
+use borrow.Author.Needs.{needs}
+use Rattle.flows.proofs.turning_of.Statement.{statement}
+use Rattle.flows.proofs.turning_of.Tie as tie
+
+returns : tie.Need-returns
+unfolding turningT
+returns c = (rw (eq-eqb _ _ (c .if1 .taken)), search needs)
+
+cast-v : tie.Need-cast-v
+cast-v c = search needs
+
+mul-rights : tie.Need-mul-rights
+mul-rights c = search needs
+
+cast-rights : tie.Need-cast-rights
+cast-rights c = search needs
+
+mul-rights-2 : tie.Need-mul-rights-2
+mul-rights-2 c = search needs
+
+sub-rights : tie.Need-sub-rights
+sub-rights c = search needs
+
+mul-lefts : tie.Need-mul-lefts
+mul-lefts c = search needs
+
+cast-lefts : tie.Need-cast-lefts
+cast-lefts c = search needs
+
+mul-lefts-2 : tie.Need-mul-lefts-2
+mul-lefts-2 c = search needs
+
+sub-lefts : tie.Need-sub-lefts
+sub-lefts c = search needs
+
+mul-result : tie.Need-mul-result
+mul-result c =
+    let s = c .before .before .before .before .before in
+    let p = s .pre in
+    omega (arith, turning-product (s .args .through .0) (s .args .right .0) (s .args .left .0) (p .1) (p .2) .most, mul-le-mul (p .0) (p .0))
+
+mul-result-2 : tie.Need-mul-result-2
+mul-result-2 c =
+    let p = c .before .before .before .before .before .pre in
+    omega (arith, mul-le-mul (p .0) (p .0))
+
+div-result : tie.Need-div-result
+div-result c = mul-pos (omega arith) (omega arith)
+
+cast-result : tie.Need-cast-result
+cast-result c =
+    let s = c .before .before .before .before .before in
+    omega (arith, turning-quotient (s .args .through .0) (s .args .right .0) (s .args .left .0) (c .before .before .before .if1 .left) (s .pre .1) (s .pre .2) .most)
+
+returns-2 : tie.Need-returns-2
+unfolding turningT
+returns-2 c =
+    let s = c .before .before .before .before .before in
+    let z = c .before .before .before .if1 .left in
+    (rw (ne-eqb _ _ z), turning-quotient (s .args .through .0) (s .args .right .0) (s .args .left .0) z (s .pre .1) (s .pre .2) .most)
+
+pub turning-of-spec : {M : Type 1} → statement M
+turning-of-spec =
+    tie.close
+    (tie.spec
+    returns
+    cast-v
+    mul-rights
+    cast-rights
+    mul-rights-2
+    sub-rights
+    mul-lefts
+    cast-lefts
+    mul-lefts-2
+    sub-lefts
+    mul-result
+    mul-result-2
+    div-result
+    cast-result
+    returns-2)

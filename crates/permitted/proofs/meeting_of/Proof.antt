@@ -1,0 +1,23 @@
+use Rattle.procedure.specs.Lines.{allowedB}
+use borrow.Author.Needs.{needs}
+use Rattle.permitted.proofs.meeting_of.Statement.{statement}
+use Rattle.permitted.proofs.meeting_of.Tie as tie
+
+left-share-requires : tie.Need-left-share-requires
+left-share-requires c κs = search needs
+
+is-a-allowed-requires : tie.Need-is-a-allowed-requires
+is-a-allowed-requires c κs = search needs
+
+returns : tie.Need-returns
+unfolding allowedB
+returns c =
+    record {
+      share = c .before .before .left-share .ensures .0;
+      alloweda = c .before .is-a-allowed .ensures;
+      allowedb = rw (c .before .before .before .pre .straight);
+      share-most = c .before .before .left-share .ensures .1;
+    }
+
+pub meeting-of-spec : {M : Type 1} → statement M
+meeting-of-spec = tie.close (tie.spec left-share-requires is-a-allowed-requires returns)

@@ -1,0 +1,57 @@
+use denote.Ref.{now}
+use lib.ListN.{length-append}
+use mathlib.Core.List.{_++_}
+use Prim.Native.Nat.{_≤_}
+use Rattle.cells.proofs.Laws.{over-then}
+use native.Mathlib.Omega.{arith}
+use borrow.Author.Needs.{needs}
+use Rattle.sheet.proofs.put_lines.Statement.{statement}
+use Rattle.sheet.proofs.put_lines.Tie as tie
+use Rattle.sheet.proofs.put_lines.Reads as reads
+use Rattle.sheet.proofs.put_lines.Lts as lts
+use Rattle.cells.proofs.put_lines.Reads as put-lines-reads
+
+-- src/lib.rt:79:5
+put-lines-requires : tie.Need-put-lines-requires
+put-lines-requires c κs = search needs
+
+-- src/lib.rt:80:5
+put-lines-requires-2 : tie.Need-put-lines-requires-2
+put-lines-requires-2 c κs = search needs
+
+-- src/lib.rt:81:5
+put-lines-requires-3 : tie.Need-put-lines-requires-3
+put-lines-requires-3 c κs = search needs
+
+-- src/lib.rt:82:5
+put-lines-requires-4 : tie.Need-put-lines-requires-4
+put-lines-requires-4 c κs = search needs
+
+-- src/lib.rt:75:1
+same-length : tie.Need-same-length
+same-length c = search needs
+
+-- src/lib.rt:75:1
+returns : tie.Need-returns
+returns c =
+    let a = c .before .before .before .before .before .before .before .before .before .before .before .before .before .before .before .before .before .args in
+    let two = a .eb ++ a .wb in
+    let three = two ++ a .nb in
+    over-then (now (a .all)) 81 three (a .sb)
+    (over-then (now (a .all)) 81 two (a .nb)
+    (over-then (now (a .all)) 81 (a .eb) (a .wb) (c .before .before .before .before .before .before .before .before .before .before .before .before .before .before .put-lines .ensures) (c .before .before .before .before .before .before .before .before .before .before .put-lines2 .ensures) (omega arith) (omega (arith, c .before .before .before .before .before .before .before .before .before .before .before .before .before .before .before .before .before .pre)))
+    (c .before .before .before .before .before .before .put-lines3 .ensures) (omega (arith, length-append (a .eb) (a .wb))) (omega (arith, c .before .before .before .before .before .before .before .before .before .before .before .before .before .before .before .before .before .pre)))
+    (c .before .before .put-lines4 .ensures)
+    (omega (arith, length-append (a .eb) (a .wb), length-append two (a .nb)))
+    (omega (arith, c .before .before .before .before .before .before .before .before .before .before .before .before .before .before .before .before .before .pre))
+
+pub put-lines-spec : {M : Type 1} → statement M
+put-lines-spec =
+    tie.close
+    (tie.spec
+    put-lines-requires
+    put-lines-requires-2
+    put-lines-requires-3
+    put-lines-requires-4
+    same-length
+    returns)

@@ -1,0 +1,44 @@
+use Rattle.cells.proofs.Laws.{over-then}
+use native.Mathlib.Omega.{arith}
+use denote.Ref.{now}
+use lib.ListN.{length-append}
+use mathlib.Core.List.{_++_}
+use Prim.Native.Nat.{_≤_}
+use borrow.Author.Needs.{needs}
+use Rattle.sheet.proofs.put_rest.Statement.{statement}
+use Rattle.sheet.proofs.put_rest.Tie as tie
+use Rattle.sheet.proofs.put_rest.Reads as reads
+use Rattle.sheet.proofs.put_rest.Lts as lts
+use Rattle.cells.proofs.put_last.Reads as put-last-reads
+use Rattle.cells.proofs.put_pair.Reads as put-pair-reads
+
+-- src/lib.rt:89:5
+put-pair-requires : tie.Need-put-pair-requires
+put-pair-requires c κs = search needs
+
+-- src/lib.rt:90:5
+put-pair-requires-2 : tie.Need-put-pair-requires-2
+put-pair-requires-2 c κs = search needs
+
+-- src/lib.rt:91:5
+put-last-requires : tie.Need-put-last-requires
+put-last-requires c κs = search needs
+
+-- src/lib.rt:85:1
+same-length : tie.Need-same-length
+same-length c = search needs
+
+-- src/lib.rt:85:1
+returns : tie.Need-returns
+returns c =
+    let a = c .before .before .before .before .before .before .before .before .before .before .before .before .before .args in
+    over-then (now (a .all)) 193 (a .along ++ a .across) (a .last)
+    (over-then (now (a .all)) 193 (a .along) (a .across) (c .before .before .before .before .before .before .before .before .before .before .put-pair .ensures) (c .before .before .before .before .before .before .put-pair2 .ensures) (omega arith) (omega (arith, c .before .before .before .before .before .before .before .before .before .before .before .before .before .pre)))
+    (c .before .before .put-last .ensures)
+    (omega (arith, length-append (a .along) (a .across)))
+    (omega (arith, c .before .before .before .before .before .before .before .before .before .before .before .before .before .pre))
+
+pub put-rest-spec : {M : Type 1} → statement M
+put-rest-spec =
+    tie.close
+    (tie.spec put-pair-requires put-pair-requires-2 put-last-requires same-length returns)

@@ -1,0 +1,26 @@
+use native.Mathlib.Omega.{arith}
+use borrow.Author.Tests.{eq-eqb, ne-eqb}
+use Rattle.clock.proofs.Laws.{time-most}
+use borrow.Author.Needs.{needs}
+use Rattle.split.proofs.part_time.Statement.{statement}
+use Rattle.split.proofs.part_time.Tie as tie
+
+returns : tie.Need-returns
+returns c = (rw (eq-eqb _ _ (c .if1 .taken)), omega arith)
+
+time-for-requires : tie.Need-time-for-requires
+time-for-requires c κs = search needs
+
+add-t7 : tie.Need-add-t7
+add-t7 c = search needs
+
+returns-2 : tie.Need-returns-2
+returns-2 c =
+    let s = c .before .before .before .before .before in
+    let is = c .before .before .time-for .ensures .0 in (
+      rw (ne-eqb _ _ (c .before .before .before .if1 .left), is),
+      omega (arith, is, time-most 43 (s .args .volume .0) (s .args .cycle) (s .args .flow .0) (s .pre .4) (s .pre .1), s .pre .3),
+    )
+
+pub part-time-spec : {M : Type 1} → statement M
+part-time-spec = tie.close (tie.spec returns time-for-requires add-t7 returns-2)

@@ -1,0 +1,47 @@
+use Rattle.walkers.proofs.Laws.{walked-room}
+use borrow.Author.Tests.{eq-eqb, ne-eqb}
+use native.Mathlib.Omega.{arith}
+use Rattle.procedure.specs.Lines.{frequency}
+use borrow.Author.Needs.{needs}
+use Rattle.walkers.proofs.walkers_frequency.Statement.{statement}
+use Rattle.walkers.proofs.walkers_frequency.Tie as tie
+
+returns : tie.Need-returns
+unfolding frequency
+returns c = (rw (eq-eqb _ _ (c .if1 .taken)), search needs)
+
+returns-2 : tie.Need-returns-2
+unfolding frequency
+returns-2 c = (rw (ne-eqb _ _ (c .before .if1 .left), ne-eqb _ _ (c .if2 .taken)), search needs)
+
+mul-decay-number : tie.Need-mul-decay-number
+mul-decay-number c = search needs
+
+mul-decay-number-2 : tie.Need-mul-decay-number-2
+mul-decay-number-2 c = record { fits = walked-room _ _ (omega arith) (omega arith) }
+
+decay-number-requires : tie.Need-decay-number-requires
+decay-number-requires c κs = search needs
+
+cast-result : tie.Need-cast-result
+cast-result c = search needs
+
+sub-result : tie.Need-sub-result
+sub-result c = search needs
+
+returns-3 : tie.Need-returns-3
+unfolding frequency
+returns-3 c = (rw (ne-eqb _ _ (c .before .before .if1 .left), eq-eqb _ _ (c .before .if2 .left)) (cc), search needs)
+
+pub walkers-frequency-spec : {M : Type 1} → statement M
+walkers-frequency-spec =
+    tie.close
+    (tie.spec
+    returns
+    returns-2
+    mul-decay-number
+    mul-decay-number-2
+    decay-number-requires
+    cast-result
+    sub-result
+    returns-3)

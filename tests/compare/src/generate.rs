@@ -1,0 +1,498 @@
+//! Inputs to try: junctions full of corners, entries a little wrong and very wrong, sheets of
+//! every history, amendments, and study files with every kind of damage.
+
+use crate::rules::{self, decay, kind_of, CELLS, CYCLE, ENTRIES, LAST, LIMITS, PAIRS, SITES};
+use std::sync::OnceLock;
+
+/// A small generator of well mixed numbers, the same run for the same seed.
+pub struct Rng(u64);
+
+impl Rng {
+    pub fn new(seed: u64) -> Rng {
+        Rng(seed)
+    }
+
+    pub fn next(&mut self) -> u64 {
+        self.0 = self.0.wrapping_add(0x9E37_79B9_7F4A_7C15);
+        let mut z = self.0;
+        z = (z ^ (z >> 30)).wrapping_mul(0xBF58_476D_1CE4_E5B9);
+        z = (z ^ (z >> 27)).wrapping_mul(0x94D0_49BB_1331_11EB);
+        z ^ (z >> 31)
+    }
+
+    pub fn number(&mut self) -> u32 {
+        (self.next() >> 32) as u32
+    }
+
+    pub fn below(&mut self, end: usize) -> usize {
+        ((u128::from(self.next()) * end as u128) >> 64) as usize
+    }
+
+    pub fn within(&mut self, least: u32, most: u32) -> u32 {
+        least + self.below((most - least) as usize + 1) as u32
+    }
+
+    pub fn pick<T: Copy>(&mut self, from: &[T]) -> T {
+        from[self.below(from.len())]
+    }
+
+    /// True once in so many times.
+    pub fn once_in(&mut self, times: usize) -> bool {
+        self.below(times) == 0
+    }
+}
+
+pub type Entries = [u32; ENTRIES];
+pub type Sheet = [u32; CELLS];
+
+// ---------------------------------------------------------------- junctions
+
+const VOLUMES: [u32; 16] =
+    [0, 0, 1, 2, 58, 59, 60, 61, 118, 119, 120, 121, 100, 400, 9_998, 9_999];
+
+/// A volume up to about so many vehicles, often one at which a rule turns.
+fn volume(rng: &mut Rng, most: u32) -> u32 {
+    let corner = rng.pick(&VOLUMES);
+    match rng.below(5) {
+        0 | 1 if corner <= most => corner,
+        2 | 3 => rng.within(0, most.min(200)),
+        _ => rng.within(0, most),
+    }
+}
+
+/// Left, through and right lanes and the shared flag of one approach.
+fn lanes(rng: &mut Rng) -> [u32; 4] {
+    match rng.below(12) {
+        0 | 1 => [0, 1, 0, 1],
+        2 => [0, rng.within(1, 6), 0, 1],
+        3 => [0, rng.within(1, 4), rng.within(0, 2), 1],
+        4 => [0, 0, 0, 0],
+        5 => [rng.within(1, 3), 0, rng.within(0, 1), 0],
+        6 => [0, rng.within(1, 3), rng.within(0, 1), 0],
+        7 => [0, 0, rng.within(1, 6), 0],
+        8 => [1, 1, 0, 0],
+        9 => [rng.within(1, 2), rng.within(1, 3), rng.within(0, 2), 0],
+        10 => [0, 1, 1, 1],
+        _ => [rng.within(0, 6), rng.within(0, 6), rng.within(0, 6), 0],
+    }
+}
+
+/// The largest volume of a junction: many quiet ones, so that every letter comes up.
+const BUSY: [u32; 6] = [130, 250, 250, 500, 900, 9_999];
+
+/// A value of the kind within its limits, often at one of its corners.
+pub fn usual(rng: &mut Rng, kind: usize) -> u32 {
+    let (least, most) = LIMITS[kind];
+    match (kind, rng.below(5)) {
+        (1, _) => {
+            let most = rng.pick(&BUSY);
+            volume(rng, most)
+        }
+        (_, 0) => rng.pick(&[least, most, least + 1, most - 1]),
+        (_, 1) => rng.within(least, most),
+        (0, _) => rng.within(0, 3),
+        (2, _) => rng.pick(&[1_900, 1_900, 1_800, 2_000]),
+        (3, _) | (4, _) => rng.pick(&[4_000, 4_000, 0, 3_999, 10_000]),
+        (6, _) => rng.pick(&[0, 0, 1, 7, 59, 60, 200]),
+        (8, _) => rng.pick(&[16_000, 16_000, 40_000, 0, 25_264]),
+        (10, _) => rng.pick(&[120, 120, 90, 60, 100]),
+        _ => rng.within(least, most),
+    }
+}
+
+/// Volumes that the lanes can carry; a T group near 120 vehicles now and then.
+fn volumes(rng: &mut Rng, lanes: &[u32; 4], busy: u32) -> [u32; 3] {
+    let [left, through, right, shared] = *lanes;
+    let mut v = [volume(rng, busy), volume(rng, busy), volume(rng, busy)];
+    if rng.once_in(4) {
+        v[0] = rng.within(58, 61);
+    }
+    if rng.once_in(4) {
+        v[2] = rng.within(0, 20);
+    }
+    if rng.once_in(3) {
+        let folded = if right == 0 { v[2].min(119) } else { 0 };
+        v[2] = if right == 0 { folded } else { v[2] };
+        v[1] = rng.within(119, 121) - folded;
+    }
+    if shared == 1 && rng.once_in(12) {
+        // Many rights and few lefts: only here may line 27 go by vST.
+        v = [rng.within(1, 10), rng.within(2_000, 9_999), rng.within(5_000, 9_999)];
+    }
+    if shared == 1 && rng.once_in(12) {
+        // Nothing but lefts: the oncoming lefts then go almost unhindered.
+        v = [v[0], 0, 0];
+    }
+    if left == 0 && shared == 0 {
+        v[0] = 0;
+    }
+    if through == 0 {
+        v[1] = 0;
+    }
+    if right == 0 && through == 0 {
+        v[2] = 0;
+    }
+    v
+}
+
+fn approach(rng: &mut Rng, e: &mut Entries, a: usize, busy: u32) {
+    let lanes = lanes(rng);
+    let mut v = volumes(rng, &lanes, busy);
+    if rng.once_in(12) {
+        v = [0; 3];
+    }
+    for turn in 0..3 {
+        let at = 15 * a + 5 * turn;
+        e[at] = lanes[turn];
+        e[at + 1] = v[turn];
+        e[at + 2] = usual(rng, 2);
+        for kind in 3..5 {
+            // Long times in a quiet junction would hide all that its volumes do.
+            e[at + kind] = match busy < 500 {
+                true => rng.pick(&[4_000, 4_000, 0, 3_000]),
+                false => usual(rng, kind),
+            };
+        }
+    }
+    for kind in 5..10 {
+        e[60 + 5 * a + kind - 5] = usual(rng, kind);
+    }
+    e[60 + 5 * a] = lanes[3];
+    if rng.once_in(2) {
+        e[60 + 5 * a + 1] = 0;
+    }
+    if !rng.once_in(4) {
+        e[60 + 5 * a + 4] = 0;
+    }
+}
+
+fn copy_approach(e: &mut Entries, from: usize, to: usize) {
+    e.copy_within(15 * from..15 * from + 15, 15 * to);
+    e.copy_within(60 + 5 * from..65 + 5 * from, 60 + 5 * to);
+}
+
+/// Pedestrians and cycles at which a decay number a few billionths off would show.
+fn walking_edges() -> &'static [(u32, u32)] {
+    static EDGES: OnceLock<Vec<(u32, u32)>> = OnceLock::new();
+    let near = |number: u64, step: u64, by: u64| (number + by) % step <= 2 * by;
+    let edge = |p: u64, cycle: u64| {
+        let often = decay(2 * p * cycle);
+        let blocked = 8 * decay(p * (cycle - 8)) + 16 * decay(4 * p);
+        (often > 100_000 && near(often, 100_000, 3)) || near(blocked, 1_000_000, 40)
+    };
+    EDGES.get_or_init(|| {
+        let all = (1..=2_000).flat_map(|p| (30..=240).map(move |cycle| (p, cycle)));
+        let edges = all.filter(|&(p, cycle)| edge(p, cycle));
+        edges.map(|(p, cycle)| (p as u32, cycle as u32)).collect()
+    })
+}
+
+/// Moves a lost time so that the ICU falls at or just past a letter's end, where one can.
+fn to_letter_end(rng: &mut Rng, e: &mut Entries) {
+    let mut sheet = [0; CELLS];
+    if rules::fill(e, &mut sheet) != rules::ACCEPTED {
+        return;
+    }
+    let end = rng.pick(&[550, 640, 730, 820, 910, 1_000, 1_090]) * e[CYCLE];
+    let wanted = i64::from(end) + i64::from(rng.within(0, 2)) - 1;
+    let change = wanted - i64::from(sheet[LAST + 5]);
+    let at = 15 * rng.below(4) + 5 * rng.below(3) + 3;
+    let lost = i64::from(e[at]) + change;
+    if (0..=20_000).contains(&lost) {
+        e[at] = lost as u32;
+    }
+}
+
+/// An acceptable junction.
+pub fn acceptable(rng: &mut Rng) -> Entries {
+    let mut e = [0; ENTRIES];
+    let busy = rng.pick(&BUSY);
+    for a in 0..4 {
+        approach(rng, &mut e, a, busy);
+    }
+    e[CYCLE] = usual(rng, 10);
+    match rng.below(8) {
+        // Equal approaches bring equal totals, where the earlier must win.
+        0 => (1..4).for_each(|a| copy_approach(&mut e, 0, a)),
+        1 => copy_approach(&mut e, 2, 3),
+        _ => {}
+    }
+    if rng.once_in(10) {
+        let (walkers, cycle) = rng.pick(walking_edges());
+        e[61 + 5 * rng.below(4)] = walkers;
+        e[CYCLE] = cycle;
+    }
+    if rng.once_in(3) {
+        to_letter_end(rng, &mut e);
+    }
+    e
+}
+
+/// An entry at, past or far past a limit of its kind.
+fn spoil_range(rng: &mut Rng, e: &mut Entries) {
+    let i = rng.below(ENTRIES);
+    let (least, most) = LIMITS[kind_of(i)];
+    e[i] = match rng.below(3) {
+        0 => any_number(rng),
+        _ => rng.pick(&[least.wrapping_sub(1), least, most, most + 1]),
+    };
+}
+
+/// Lanes, a volume or the shared flag changed without a look at the others.
+fn spoil_lanes(rng: &mut Rng, e: &mut Entries) {
+    let (a, turn) = (rng.below(4), rng.below(3));
+    match rng.below(4) {
+        0 => e[60 + 5 * a] ^= 1,
+        1 => e[15 * a + 5 * turn] = rng.within(0, 1),
+        2 => e[15 * a + 5] = 0,
+        _ => e[15 * a + 5 * turn + 1] = rng.within(0, 2),
+    }
+}
+
+/// A junction with up to four small faults, which may happen to be none.
+pub fn nearly(rng: &mut Rng) -> Entries {
+    let mut e = acceptable(rng);
+    if rng.once_in(3) {
+        spoil_range(rng, &mut e);
+    }
+    for _ in 0..rng.below(4) {
+        spoil_lanes(rng, &mut e);
+    }
+    e
+}
+
+/// Any number at all, small ones as often as large ones.
+pub fn any_number(rng: &mut Rng) -> u32 {
+    match rng.below(6) {
+        0 => u32::MAX,
+        1 => 0,
+        2 => rng.pick(&[1, 1 << 31, (1 << 31) - 1, u32::MAX - 1, 429_497]),
+        _ => rng.number() >> rng.below(32),
+    }
+}
+
+fn any_numbers(rng: &mut Rng, length: usize) -> Vec<u32> {
+    (0..length).map(|_| any_number(rng)).collect()
+}
+
+/// A length around those that matter.
+pub fn any_length(rng: &mut Rng) -> usize {
+    let corners = [0, 1, 80, 81, 82, 161, 162, 163, 193, 201, 208, 209, 210, 243, 418];
+    match rng.once_in(4) {
+        true => rng.below(500),
+        false => rng.pick(&corners),
+    }
+}
+
+/// Entries of any length: mostly acceptable junctions, then spoilt ones, then anything.
+pub fn any_entries(rng: &mut Rng) -> Vec<u32> {
+    match rng.below(12) {
+        0..=5 => acceptable(rng).to_vec(),
+        6..=8 => nearly(rng).to_vec(),
+        9 => any_numbers(rng, ENTRIES),
+        10 => {
+            let mut e = acceptable(rng).to_vec();
+            e.resize(any_length(rng), 0);
+            e
+        }
+        _ => {
+            let length = any_length(rng);
+            any_numbers(rng, length)
+        }
+    }
+}
+
+// ---------------------------------------------------------------- sheets and amendments
+
+/// The sheet of an acceptable junction as a fill leaves it.
+pub fn filled(rng: &mut Rng) -> Sheet {
+    let mut sheet = [0; CELLS];
+    rules::fill(&acceptable(rng), &mut sheet);
+    sheet
+}
+
+/// An amendment: mostly a fair value of any entry, now and then a bad value or place.
+pub fn amendment(rng: &mut Rng) -> (u32, u32) {
+    let entry = match rng.below(8) {
+        0 => rng.within(60, 80),
+        1 => CYCLE as u32,
+        _ => rng.below(ENTRIES) as u32,
+    };
+    let kind = kind_of(entry as usize);
+    let (least, most) = LIMITS[kind];
+    let value = match rng.below(12) {
+        0 => rng.pick(&[least.wrapping_sub(1), least, most, most + 1]),
+        1 => any_number(rng),
+        _ => usual(rng, kind),
+    };
+    match rng.once_in(25) {
+        true => (rng.pick(&[81, 82, 161, 208, 209, u32::MAX, u32::MAX - 80]), value),
+        false => (entry, value),
+    }
+}
+
+/// A sheet whose entries an amendment may judge and whose other cells hold anything.
+fn rubbish(rng: &mut Rng) -> Vec<u32> {
+    let mut sheet = any_numbers(rng, CELLS);
+    let entries = match rng.below(4) {
+        0 => nearly(rng),
+        _ => acceptable(rng),
+    };
+    sheet[..ENTRIES].copy_from_slice(&entries);
+    sheet
+}
+
+/// A sheet that has been filled and amended and then had some cells scribbled over.
+fn worn(rng: &mut Rng) -> Vec<u32> {
+    let mut sheet = filled(rng).to_vec();
+    for _ in 0..rng.below(6) {
+        let (entry, value) = amendment(rng);
+        rules::amend(&mut sheet, entry, value);
+    }
+    for _ in 0..rng.below(4) {
+        let at = rng.within(ENTRIES as u32, CELLS as u32 - 1) as usize;
+        sheet[at] = any_number(rng);
+    }
+    sheet
+}
+
+/// A sheet of any history, now and then of the wrong length.
+pub fn any_sheet(rng: &mut Rng) -> Vec<u32> {
+    match rng.below(16) {
+        0..=5 => filled(rng).to_vec(),
+        6..=9 => worn(rng),
+        10..=13 => rubbish(rng),
+        14 => any_numbers(rng, CELLS),
+        _ => {
+            let mut sheet = filled(rng).to_vec();
+            sheet.resize(any_length(rng), 0);
+            sheet
+        }
+    }
+}
+
+/// A sheet with one entry out of range, and the amendment that puts it right.
+pub fn repairable(rng: &mut Rng) -> (Vec<u32>, u32, u32) {
+    let mut sheet = rubbish(rng);
+    let entry = rng.below(ENTRIES);
+    let good = sheet[entry];
+    sheet[entry] = any_number(rng);
+    (sheet, entry as u32, good)
+}
+
+// ---------------------------------------------------------------- study files
+
+/// How many sites a file should have: few, or about the most there may be.
+pub fn any_count(rng: &mut Rng) -> usize {
+    match rng.below(10) {
+        0 => 0,
+        1 => rng.pick(&[SITES - 1, SITES, 100]),
+        _ => rng.within(1, 6) as usize,
+    }
+}
+
+/// The entries of so many sites, bad ones among them.
+pub fn sites(rng: &mut Rng, count: usize) -> Vec<u32> {
+    let mut entries = Vec::with_capacity(count * ENTRIES);
+    for _ in 0..count {
+        let site = match rng.below(6) {
+            0 => nearly(rng).to_vec(),
+            1 => any_numbers(rng, ENTRIES),
+            _ => acceptable(rng).to_vec(),
+        };
+        entries.extend(site);
+    }
+    entries
+}
+
+/// A file laid out by hand, so that it may have more sites than are allowed.
+pub fn laid_out(entries: &[u32]) -> Vec<u8> {
+    let k = entries.len() / ENTRIES;
+    let mut file = b"ICUS".to_vec();
+    file.extend((k as u32).to_le_bytes());
+    for j in 0..k {
+        file.extend(((8 + 4 * k + 324 * j) as u32).to_le_bytes());
+    }
+    entries.iter().for_each(|entry| file.extend(entry.to_le_bytes()));
+    file
+}
+
+/// Puts a number where a field of the file stands, if the file reaches so far.
+fn put(file: &mut [u8], at: usize, number: u32) {
+    if let Some(field) = file.get_mut(at..at + 4) {
+        field.copy_from_slice(&number.to_le_bytes());
+    }
+}
+
+/// Lengths at and around the ends of the file's fields.
+fn cut_length(rng: &mut Rng, file: &[u8]) -> usize {
+    let k = rules::study_count(file) as usize;
+    let ends = [0, 4, 8, 8 + 4 * k, 8 + 4 * k + 324, file.len(), 8 + 4 * rng.below(k + 1)];
+    match rng.once_in(3) {
+        true => rng.below(file.len() + 1),
+        false => (rng.pick(&ends) + rng.below(5)).saturating_sub(2).min(file.len()),
+    }
+}
+
+/// One kind of damage to a file.
+fn damage(rng: &mut Rng, file: &mut Vec<u8>) {
+    let k = rules::study_count(file) as usize;
+    let anywhere = rng.below(file.len() + 1);
+    match rng.below(8) {
+        0 => file.truncate(cut_length(rng, file)),
+        1 => file.extend((0..=rng.below(400)).map(|i| i as u8)),
+        2 => put(file, 0, 0x5355_4349 ^ (1 << rng.below(32))),
+        3 => {
+            let around = [k as u32 + 1, (k as u32).wrapping_sub(1), 180, 181, u32::MAX];
+            put(file, 4, rng.pick(&around));
+        }
+        4 | 5 => {
+            let j = rng.below(k.max(1));
+            let right = (8 + 4 * k + 324 * j) as u32;
+            let wrong = [right ^ (1 << rng.below(32)), right + 4, right - 4, 0, u32::MAX];
+            put(file, 8 + 4 * j, rng.pick(&wrong));
+        }
+        6 => put(file, anywhere / 4 * 4, rng.number()),
+        _ => put(file, anywhere, rng.number()),
+    }
+}
+
+/// A study file: a good one, a damaged one, one with too many sites, or any bytes at all.
+pub fn any_file(rng: &mut Rng) -> Vec<u8> {
+    let count = any_count(rng);
+    match rng.below(20) {
+        0 => {
+            let length = rng.below(700);
+            (0..length).map(|_| rng.number() as u8).collect()
+        }
+        1 => {
+            let mut file = b"ICUS".to_vec();
+            file.extend((0..rng.below(40)).map(|_| rng.number() as u8 & 1));
+            file
+        }
+        2 => laid_out(&vec![7; ENTRIES * (SITES + rng.below(4))]),
+        3..=10 => laid_out(&sites(rng, count)),
+        _ => {
+            let mut file = laid_out(&sites(rng, count));
+            for _ in 0..=rng.below(3) {
+                damage(rng, &mut file);
+            }
+            file
+        }
+    }
+}
+
+/// A site's number: one the file has, the first it lacks, or far beyond.
+pub fn any_site(rng: &mut Rng, file: &[u8]) -> u32 {
+    let k = rules::study_count(file);
+    let beyond = [k, k + 1, 179, 180, 181, 1 << 30, u32::MAX, u32::MAX / 324 + 1];
+    match k > 0 && !rng.once_in(4) {
+        true => rng.within(0, k - 1),
+        false => rng.pick(&beyond),
+    }
+}
+
+/// Both picks of a filled sheet.
+pub fn picks(sheet: &[u32]) -> [usize; 2] {
+    [sheet[PAIRS + 3] as usize, sheet[PAIRS + 7] as usize]
+}

@@ -1,0 +1,8 @@
+//! The worksheet's rules in plain Rust, the library's calls, and inputs to try on both.
+
+#![deny(unsafe_code)]
+
+pub mod generate;
+#[allow(unsafe_code)]
+pub mod library;
+pub mod rules;

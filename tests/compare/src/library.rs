@@ -1,0 +1,103 @@
+//! The library's C calls, each under a safe function of the same shape as its twin in `rules`.
+//! A lent list passes as a pointer and then a length; the library keeps nothing after a call.
+
+use crate::rules::Answer;
+
+#[allow(dead_code)]
+#[repr(C)]
+#[derive(Clone, Copy)]
+struct IcuAnswer {
+    number: u32,
+    place: u32,
+}
+
+impl From<IcuAnswer> for Answer {
+    fn from(answer: IcuAnswer) -> Answer {
+        Answer { number: answer.number, place: answer.place }
+    }
+}
+
+#[cfg(feature = "fill")]
+extern "C" {
+    fn icu_fill(
+        entries: *const u32,
+        entries_len: usize,
+        sheet: *mut u32,
+        sheet_len: usize,
+    ) -> IcuAnswer;
+}
+
+#[cfg(feature = "amend")]
+extern "C" {
+    fn icu_amend(sheet: *mut u32, len: usize, entry: u32, value: u32) -> IcuAnswer;
+}
+
+#[cfg(feature = "study")]
+extern "C" {
+    fn icu_study_check(file: *const u8, len: usize) -> IcuAnswer;
+    fn icu_study_count(file: *const u8, len: usize) -> u32;
+    fn icu_study_site(
+        file: *const u8,
+        len: usize,
+        site: u32,
+        entries: *mut u32,
+        entries_len: usize,
+    ) -> IcuAnswer;
+    fn icu_study_write(
+        entries: *const u32,
+        len: usize,
+        out: *mut u8,
+        out_len: usize,
+    ) -> IcuAnswer;
+    fn icu_study_list(
+        file: *const u8,
+        len: usize,
+        out: *mut u8,
+        out_len: usize,
+        length: *mut u32,
+    ) -> IcuAnswer;
+}
+
+#[cfg(feature = "fill")]
+pub fn fill(entries: &[u32], sheet: &mut [u32]) -> Answer {
+    // SAFETY: both lists are live for the call, of the lengths given, and do not overlap.
+    unsafe { icu_fill(entries.as_ptr(), entries.len(), sheet.as_mut_ptr(), sheet.len()) }.into()
+}
+
+#[cfg(feature = "amend")]
+pub fn amend(sheet: &mut [u32], entry: u32, value: u32) -> Answer {
+    // SAFETY: the list is live for the call and of the length given.
+    unsafe { icu_amend(sheet.as_mut_ptr(), sheet.len(), entry, value) }.into()
+}
+
+#[cfg(feature = "study")]
+pub fn study_check(file: &[u8]) -> Answer {
+    // SAFETY: the file is live for the call and of the length given.
+    unsafe { icu_study_check(file.as_ptr(), file.len()) }.into()
+}
+
+#[cfg(feature = "study")]
+pub fn study_count(file: &[u8]) -> u32 {
+    // SAFETY: the file is live for the call and of the length given.
+    unsafe { icu_study_count(file.as_ptr(), file.len()) }
+}
+
+#[cfg(feature = "study")]
+pub fn study_site(file: &[u8], site: u32, entries: &mut [u32]) -> Answer {
+    let (list, len) = (entries.as_mut_ptr(), entries.len());
+    // SAFETY: file and list are live for the call, of the lengths given, and do not overlap.
+    unsafe { icu_study_site(file.as_ptr(), file.len(), site, list, len) }.into()
+}
+
+#[cfg(feature = "study")]
+pub fn study_write(entries: &[u32], out: &mut [u8]) -> Answer {
+    // SAFETY: both lists are live for the call, of the lengths given, and do not overlap.
+    unsafe { icu_study_write(entries.as_ptr(), entries.len(), out.as_mut_ptr(), out.len()) }.into()
+}
+
+#[cfg(feature = "study")]
+pub fn study_list(file: &[u8], out: &mut [u8], length: &mut u32) -> Answer {
+    let (room, len) = (out.as_mut_ptr(), out.len());
+    // SAFETY: file, room and length are live for the call, of the lengths given, and apart.
+    unsafe { icu_study_list(file.as_ptr(), file.len(), room, len, length) }.into()
+}

@@ -1,0 +1,98 @@
+//! What is told: the counts at the end, and a difference with its input and both outputs.
+
+use crate::lent::{Canary, Lent};
+use compare::generate::picks;
+use compare::rules::{Answer, BLANK, FIRST_LINE, LAST, LINES, PAIRS};
+use std::collections::BTreeMap;
+use std::fmt::{Debug, Write};
+
+const NAMES: [&str; 7] = ["accepted", "SIZE", "ENTRY", "RANGE", "SHARED", "NOLANE", "FILE"];
+const APPROACHES: [&str; 4] = ["EB", "WB", "NB", "SB"];
+
+/// How often each answer, and each turn of the rules, came up.
+#[derive(Default)]
+pub struct Tally {
+    answers: BTreeMap<(&'static str, u32), u64>,
+    letters: [u64; 8],
+    picked: [u64; 3],
+    blanks: [u64; 2],
+}
+
+impl Tally {
+    pub fn answered(&mut self, call: &'static str, answer: Answer) {
+        *self.answers.entry((call, answer.number)).or_default() += 1;
+    }
+
+    /// Counts the turns that a filled sheet took.
+    pub fn filled(&mut self, sheet: &[u32]) {
+        self.letters[sheet[LAST + 7] as usize & 7] += 1;
+        picks(sheet).into_iter().for_each(|pick| self.picked[pick % 3] += 1);
+        for a in 0..4 {
+            for option in 0..2 {
+                let cell = sheet[FIRST_LINE + LINES * a + 22 + option];
+                self.blanks[option] += u64::from(cell == BLANK);
+            }
+        }
+    }
+
+    pub fn print(&self) {
+        let mut last = "";
+        let mut text = String::new();
+        for (&(call, number), count) in &self.answers {
+            if call != last {
+                let _ = write!(text, "{}{call}:", if last.is_empty() { "" } else { "\n" });
+                last = call;
+            }
+            let name = NAMES.get(number as usize).unwrap_or(&"?");
+            let _ = write!(text, " {name} {count}");
+        }
+        println!("{text}");
+        println!("letters A to H: {:?}", self.letters);
+        println!("picked protected, permitted, split: {:?}", self.picked);
+        println!("BLANK in lines 23, 24: {:?}", self.blanks);
+    }
+}
+
+/// What a cell of a sheet is.
+pub fn cell_name(at: usize) -> String {
+    match at {
+        0..FIRST_LINE => format!("entry {at}"),
+        FIRST_LINE..PAIRS => {
+            let (a, k) = ((at - FIRST_LINE) / LINES, (at - FIRST_LINE) % LINES + 1);
+            format!("{} line {k}", APPROACHES[a])
+        }
+        PAIRS..LAST => {
+            let cells = ["protected", "permitted", "split", "picked"];
+            let pair = ["EB-WB", "NB-SB"][(at - PAIRS) / 4];
+            format!("{pair} {}", cells[(at - PAIRS) % 4])
+        }
+        _ => {
+            let cells =
+                ["EBR", "WBR", "NBR", "SBR", "combined", "required", "ICU", "letter"];
+            cells.get(at - LAST).map_or_else(|| format!("cell {at}"), |cell| cell.to_string())
+        }
+    }
+}
+
+/// The text of a difference, or nothing where the two outcomes agree.
+pub fn compare<T: Canary + Debug>(
+    input: &dyn Fn() -> String,
+    ours: (Answer, &Lent<T>),
+    theirs: (Answer, &Lent<T>),
+) -> Result<(), String> {
+    if ours.0 == theirs.0 && ours.1 == theirs.1 {
+        return Ok(());
+    }
+    let mut text = input();
+    let _ = write!(text, "\nrules:   {:?}\nlibrary: {:?}\n", ours.0, theirs.0);
+    let pairs = ours.1.part().iter().zip(theirs.1.part());
+    for (at, (x, y)) in pairs.enumerate().filter(|(_, (x, y))| x != y) {
+        let _ = writeln!(text, "at {at} ({}): rules {x:?}, library {y:?}", cell_name(at));
+    }
+    if !ours.1.same_around(theirs.1) {
+        let _ = writeln!(text, "cells around the lent list were altered");
+    }
+    let _ = writeln!(text, "rules' output:   {:?}", ours.1.part());
+    let _ = writeln!(text, "library's output: {:?}", theirs.1.part());
+    Err(text)
+}

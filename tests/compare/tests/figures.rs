@@ -1,0 +1,102 @@
+//! Every figure the paper gives for K1 to K10, and its listing, against the plain rules.
+
+use compare::rules::*;
+
+fn k1() -> [u32; ENTRIES] {
+    let mut e = [0; ENTRIES];
+    for m in 0..12 {
+        e[5 * m..5 * m + 5].copy_from_slice(&match m % 3 {
+            0 => [1, 100, 1_900, 4_000, 4_000],
+            1 => [1, 400, 1_900, 4_000, 4_000],
+            _ => [0, 0, 1_900, 4_000, 4_000],
+        });
+    }
+    for a in 0..4 {
+        e[60 + 5 * a..65 + 5 * a].copy_from_slice(&[0, 0, 1, 16_000, 0]);
+    }
+    e[CYCLE] = 120;
+    e
+}
+
+fn k2() -> [u32; ENTRIES] {
+    let mut e = k1();
+    for a in 0..4 {
+        for (turn, (lanes, volume)) in [(0, 100), (1, 300), (0, 100)].into_iter().enumerate() {
+            e[15 * a + 5 * turn] = lanes;
+            e[15 * a + 5 * turn + 1] = volume;
+        }
+        e[60 + 5 * a] = 1;
+    }
+    e
+}
+
+fn sheet(e: &[u32; ENTRIES]) -> [u32; CELLS] {
+    let mut s = [0; CELLS];
+    assert_eq!(fill(e, &mut s), ACCEPTED);
+    s
+}
+
+fn line(s: &[u32; CELLS], a: usize, k: usize) -> u32 {
+    s[FIRST_LINE + LINES * a + k - 1]
+}
+
+fn with(mut e: [u32; ENTRIES], changes: &[(usize, u32)]) -> [u32; ENTRIES] {
+    changes.iter().for_each(|&(at, value)| e[at] = value);
+    e
+}
+
+#[test]
+fn k1_plain() {
+    let s = sheet(&k1());
+    for a in 0..4 {
+        assert_eq!([13, 16, 14, 17].map(|k| line(&s, a, k)), [6_649, 10_649, 25_264, 29_264]);
+    }
+    assert_eq!((s[PAIRS], s[PAIRS + 3], s[PAIRS + 4], s[PAIRS + 7]), (39_913, 0, 39_913, 0));
+    assert_eq!(s[LAST + 5..], [79_826, 666, 2]);
+}
+
+#[test]
+fn k2_shared() {
+    let s = sheet(&k2());
+    for a in 0..4 {
+        let lines = [4, 6, 20, 21, 22, 23].map(|k| line(&s, a, k));
+        assert_eq!(lines, [9_603, 1_824, 2_000, 29_455, 1_312, 45_732]);
+    }
+    assert_eq!(s[PAIRS..PAIRS + 4], [BLANK, 49_732, 73_790, 1]);
+    assert_eq!(s[LAST + 6..], [829, 4]);
+}
+
+#[test]
+fn k3_walkers() {
+    assert_eq!(decay(2 * 60 * 120), 135_335_283);
+    let s = sheet(&with(k1(), &[(61, 60), (63, 40_000)]));
+    assert_eq!((line(&s, 0, 12), line(&s, 0, 17)), (8_647, 42_007));
+}
+
+#[test]
+fn k4_to_k6_letters() {
+    let empty: Vec<_> = (0..12).map(|m| (5 * m + 1, 0)).collect();
+    let s = sheet(&with(k1(), &empty));
+    assert_eq!((s[LAST + 6], s[LAST + 7], s[PAIRS + 3], s[PAIRS + 7]), (0, 0, 0, 0));
+    assert_eq!((letter(550), letter(551)), (0, 1));
+}
+
+#[test]
+fn k7_to_k10_options() {
+    let eb = |changes, k| line(&sheet(&with(k1(), changes)), 0, k);
+    assert_eq!(eb(&[(21, 120)], 24), 25_264);
+    assert_eq!(eb(&[(21, 121)], 24), BLANK);
+    assert_eq!(eb(&[(1, 59)], 23), 118_000);
+    assert_eq!(eb(&[(1, 60)], 23), BLANK);
+}
+
+#[test]
+fn the_papers_listing() {
+    let mut entries = k1().to_vec();
+    entries.extend(with(k1(), &[(CYCLE, 29)]));
+    let mut file = vec![0; file_length(2)];
+    assert_eq!(study_write(&entries, &mut file), ACCEPTED);
+    assert_eq!(listing(&file), b"1 666 C PP\n2 R3 80\n");
+    file.pop();
+    assert_eq!(listing(&file), format!("file R6 {}\n", file.len()).as_bytes());
+}
