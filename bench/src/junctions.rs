@@ -6,8 +6,9 @@ use compare::rules::{self, ACCEPTED, CELLS, CYCLE, ENTRIES};
 pub type Sheet = [u32; CELLS];
 
 /// Lanes of left, through, right and the shared flag.
-const SHAPES: [[u32; 4]; 7] = [
+const SHAPES: [[u32; 4]; 8] = [
     [0, 1, 0, 1],
+    [0, 1, 0, 0],
     [0, 2, 0, 1],
     [0, 2, 1, 1],
     [1, 1, 0, 0],
@@ -18,13 +19,23 @@ const SHAPES: [[u32; 4]; 7] = [
 
 fn approach(rng: &mut Rng, e: &mut Entries, a: usize, walkers: bool) {
     // An empty leg is rarer than any other shape.
-    let last = if rng.once_in(3) { 7 } else { 6 };
+    let last = if rng.once_in(3) { 8 } else { 7 };
     let lanes = SHAPES[rng.below(last)];
     let open = u32::from(lanes[1] > 0);
-    let volumes = [rng.within(5, 160), rng.within(60, 420) * lanes[1], rng.within(5, 160) * open];
+    let volumes = [
+        rng.within(5, 160),
+        rng.within(60, 420) * lanes[1],
+        rng.within(5, 160) * open,
+    ];
     for turn in 0..3 {
         let volume = volumes[turn] * u32::from(turn > 0 || lanes[0] + lanes[3] > 0);
-        let entries = [lanes[turn], volume, rng.pick(&[1_900, 1_900, 1_850]), 4_000, 4_000];
+        let entries = [
+            lanes[turn],
+            volume,
+            rng.pick(&[1_900, 1_900, 1_850]),
+            4_000,
+            4_000,
+        ];
         e[15 * a + 5 * turn..][..5].copy_from_slice(&entries);
     }
     let crossing = if walkers { rng.within(5, 250) } else { 0 };

@@ -11,7 +11,7 @@ use compare::rules::{self, Answer, CELLS, SITES};
 use junctions::Sheet;
 use std::hint::black_box;
 use steps::{Step, KINDS};
-use timing::Work;
+use timing::{Times, Work};
 
 type Fill = fn(&[u32], &mut [u32]) -> Answer;
 type Amend = fn(&mut [u32], u32, u32) -> Answer;
@@ -41,11 +41,12 @@ const LIST: Option<List> = {
     call
 };
 
-fn row(name: &str, (library, rust): (Option<f64>, f64)) {
-    match library {
-        Some(library) => println!("{name:<32}{library:>12.1}{rust:>12.1}{:>9.2}", library / rust),
-        None => println!("{name:<32}{:>12}{rust:>12.1}{:>9}", "-", "-"),
-    }
+fn row(name: &str, times: Times) {
+    let shown = |number: Option<f64>, digits: usize| {
+        number.map_or_else(|| "-".to_string(), |number| format!("{number:.digits$}"))
+    };
+    let (library, ratio) = (shown(times.library, 1), shown(times.ratio, 2));
+    println!("{name:<32}{library:>12}{:>12.1}{ratio:>9}", times.rust);
 }
 
 fn filling(call: Fill, mix: &[Entries]) -> Work<'_> {
@@ -58,7 +59,10 @@ fn filling(call: Fill, mix: &[Entries]) -> Work<'_> {
 
 fn time_fill(name: &str, mix: &[Entries], rounds: usize) {
     let library = FILL.map(|call| filling(call, mix));
-    row(name, timing::both(library, filling(rules::fill, mix), mix.len(), rounds));
+    row(
+        name,
+        timing::both(library, filling(rules::fill, mix), mix.len(), rounds),
+    );
 }
 
 fn amending<'a>(call: Amend, sheets: &'a mut [Sheet], steps: &'a [Step]) -> Work<'a> {
@@ -67,7 +71,11 @@ fn amending<'a>(call: Amend, sheets: &'a mut [Sheet], steps: &'a [Step]) -> Work
 
 fn time_amend(name: &str, mix: &[Entries], steps: &[Step], rounds: usize) {
     let (mut theirs, mut ours) = (junctions::sheets(mix), junctions::sheets(mix));
-    assert_eq!(steps::take(&mut ours, steps, rules::amend), 0, "an amendment was refused");
+    assert_eq!(
+        steps::take(&mut ours, steps, rules::amend),
+        0,
+        "an amendment was refused"
+    );
     let library = AMEND.map(|call| amending(call, &mut theirs, steps));
     let rust = amending(rules::amend, &mut ours, steps);
     row(name, timing::both(library, rust, steps.len(), rounds));
@@ -86,16 +94,29 @@ fn listing(call: List, file: &[u8]) -> Work<'_> {
 fn time_list(name: &str, mix: &[Entries], rounds: usize) {
     let file = laid_out(&mix[..SITES].concat());
     let library = LIST.map(|call| listing(call, &file));
-    row(name, timing::both(library, listing(rules::study_list, &file), 1, rounds));
+    row(
+        name,
+        timing::both(library, listing(rules::study_list, &file), 1, rounds),
+    );
 }
 
 fn main() {
-    let rounds = std::env::args().nth(1).and_then(|word| word.parse().ok()).unwrap_or(41);
+    let rounds = std::env::args()
+        .nth(1)
+        .and_then(|word| word.parse().ok())
+        .unwrap_or(401);
     let mut rng = Rng::new(2003);
     let quiet = junctions::mix(&mut rng, 200, false);
     let walked = junctions::mix(&mut rng, 200, true);
-    let mix: Vec<Entries> = quiet.iter().zip(&walked).flat_map(|(x, y)| [*x, *y]).collect();
-    println!("{:<32}{:>12}{:>12}{:>9}", "ns per call, medians", "library", "Rust", "ratio");
+    let mix: Vec<Entries> = quiet
+        .iter()
+        .zip(&walked)
+        .flat_map(|(x, y)| [*x, *y])
+        .collect();
+    println!(
+        "{:<32}{:>12}{:>12}{:>9}",
+        "ns per call, medians", "library", "Rust", "ratio"
+    );
     time_fill("fill, no pedestrians", &quiet, rounds);
     time_fill("fill, pedestrians", &walked, rounds);
     time_fill("fill, mix", &mix, rounds);

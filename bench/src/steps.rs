@@ -45,8 +45,16 @@ pub fn of_kind(rng: &mut Rng, junctions: &[Entries], kind: usize) -> Vec<Step> {
     let (mut there, mut back) = (Vec::new(), Vec::new());
     for (sheet, e) in junctions.iter().enumerate() {
         if let Some((entry, value)) = change(rng, e, kind) {
-            there.push(Step { sheet, entry: entry as u32, value });
-            back.push(Step { sheet, entry: entry as u32, value: e[entry] });
+            there.push(Step {
+                sheet,
+                entry: entry as u32,
+                value,
+            });
+            back.push(Step {
+                sheet,
+                entry: entry as u32,
+                value: e[entry],
+            });
         }
     }
     there.extend(back);
@@ -59,8 +67,16 @@ pub fn of_all_kinds(rng: &mut Rng, junctions: &[Entries]) -> Vec<Step> {
     for (sheet, e) in junctions.iter().enumerate() {
         let kind = rng.below(KINDS.len());
         if let Some((entry, value)) = change(rng, e, kind) {
-            there.push(Step { sheet, entry: entry as u32, value });
-            back.push(Step { sheet, entry: entry as u32, value: e[entry] });
+            there.push(Step {
+                sheet,
+                entry: entry as u32,
+                value,
+            });
+            back.push(Step {
+                sheet,
+                entry: entry as u32,
+                value: e[entry],
+            });
         }
     }
     there.extend(back);

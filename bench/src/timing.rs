@@ -3,8 +3,9 @@
 use std::hint::black_box;
 use std::time::Instant;
 
-/// How long one turn should last, in nanoseconds: long beside the clock, short beside the noise.
-const TURN: f64 = 3e6;
+/// How long one turn should last, in nanoseconds: long for the clock, short enough that most turns
+/// are not interrupted.
+const TURN: f64 = 2e5;
 
 /// Does its work once, a number of calls, and gives something that depends on all of it.
 pub type Work<'a> = Box<dyn FnMut() -> usize + 'a>;
@@ -28,23 +29,37 @@ fn median(mut times: Vec<f64>) -> f64 {
     times[times.len() / 2]
 }
 
-/// Medians of the library's and the plain Rust's time for one call, in nanoseconds.
-pub fn both(mut library: Option<Work>, mut rust: Work, calls: usize, rounds: usize) -> (Option<f64>, f64) {
+/// Medians over the rounds: nanoseconds of one call, and the library's share of the plain Rust's.
+pub struct Times {
+    pub rust: f64,
+    pub library: Option<f64>,
+    pub ratio: Option<f64>,
+}
+
+/// Times the two in turn, the first to go changing from round to round.
+pub fn both(library: Option<Work>, mut rust: Work, calls: usize, rounds: usize) -> Times {
     let rust_times = times(&mut rust);
-    let library_times = library.as_mut().map_or(0, times);
-    let (mut first, mut second) = (Vec::new(), Vec::new());
+    let Some(mut library) = library else {
+        let alone = (0..rounds).map(|_| turn(&mut rust, rust_times)).collect();
+        return Times {
+            rust: median(alone) / calls as f64,
+            library: None,
+            ratio: None,
+        };
+    };
+    let library_times = times(&mut library);
+    let mut taken = Vec::new();
     for round in 0..rounds {
-        // Who goes first changes from round to round.
-        if round % 2 == 0 {
-            second.push(turn(&mut rust, rust_times));
-        }
-        if let Some(work) = library.as_mut() {
-            first.push(turn(work, library_times));
-        }
-        if round % 2 == 1 {
-            second.push(turn(&mut rust, rust_times));
-        }
+        let early = (round % 2 == 0).then(|| turn(&mut rust, rust_times));
+        let theirs = turn(&mut library, library_times);
+        let ours = early.unwrap_or_else(|| turn(&mut rust, rust_times));
+        taken.push((theirs, ours));
     }
-    let each = |times: Vec<f64>| median(times) / calls as f64;
-    (library.is_some().then(|| each(first)), each(second))
+    // A ratio within each round is spared what changes from one round to the next.
+    let over = |part: fn(&(f64, f64)) -> f64| median(taken.iter().map(part).collect());
+    Times {
+        rust: over(|t| t.1) / calls as f64,
+        library: Some(over(|t| t.0) / calls as f64),
+        ratio: Some(over(|t| t.0 / t.1)),
+    }
 }

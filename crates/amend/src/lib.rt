@@ -26,3 +26,27 @@ fn entries_with(sheet: &[u32], entry: usize, value: u32) -> [u32; 81]
     entries[entry] = value;
     entries
 }
+
+// Changes one entry of a sheet and writes anew every cell that it reaches; where it is refused, the sheet stays as it was.
+pub fn amend(sheet: &mut [u32], entry: u32, value: u32) -> Answer
+    ensures { λ r. ⌜ r ≡ amendAnswer (now (sheet .entry)) entry value ⌝ }
+    ensures { λ r. ⌜ now (sheet .exit) ≡ amended (now (sheet .entry)) entry value ⌝ }
+{
+    let size = sheet::check_sheet(sheet);
+    let Answer::Accepted = size else {
+        return size;
+    };
+    let known = check_entry(entry);
+    let Answer::Accepted = known else {
+        return known;
+    };
+    let place = entry as usize;
+    let entries = entries_with(sheet, place, value);
+    let judged = entries::judge(&entries);
+    let Answer::Accepted = judged else {
+        return judged;
+    };
+    let fresh = sheet::fresh(&entries);
+    reach::renew(sheet, &fresh, place);
+    Answer::Accepted
+}

@@ -1,24 +1,36 @@
 -- Laws of answers: how checks that follow one another answer, and what a search for the lowest fault finds.
-use mathlib.Core.Path.{_≡_, refl, _∙_, ap, sym}
+use mathlib.Core.Path.{_≡_, refl, _∙_, sym}
 use mathlib.Core.Bool.{Bool, true, false, cond}
 use Prim.Native.Nat.{ℕ, zero, suc, _+_, _-_, _≤_, _<_}
 use native.Mathlib.Nat.{add-zero, add-suc, suc-add, sub-zero, zero-add, le-of-suc-le-suc, not-suc-le-zero}
 use native.Mathlib.Numerals.{add-one}
 use native.Mathlib.Omega.{arith}
-use Rattle.answers.specs.Answers.{_then_, refuse-if, lowest}
+use Rattle.answers.specs.Answers.{_then_, refuse-if, lowest, left-by}
 use Rattle.answers.specs.declared.Refusal.{Refusal}
 use Rattle.answers.specs.declared.Answer.{Answer}
 use Rattle.answers.specs.declared.Answer.the-variants.{Accepted, Refused}
 
--- a check that refuses is the answer of all
-pub handed-on : {r a : Answer} {why : Refusal} {place : ℕ} (next : Answer) → r ≡ a → r ≡ Refused why place → r ≡ (a then next)
-handed-on {r} next e refused =
-    let f : (r then next) ≡ r = rw refused in
-    sym f ∙ ap (λ x. x then next) e
+-- an accepted check hands on to the next
+pub go-on : {a : Answer} (next : Answer) → a ≡ Accepted → (a then next) ≡ next
+go-on next e = rw e
 
--- a check that accepts leaves the answer to the next
+-- a refusal is handed on as it is
+pub hand-on : {a : Answer} {why : Refusal} {place : ℕ} (next : Answer) → a ≡ Refused why place → (a then next) ≡ a
+hand-on next e = rw e
+
+-- the same of what a call answered: a refusal is the answer of all, acceptance leaves the answer to the next
+pub handed-on : {r a : Answer} {why : Refusal} {place : ℕ} (next : Answer) → r ≡ a → r ≡ Refused why place → r ≡ (a then next)
+handed-on next e refused = e ∙ sym (hand-on next (sym e ∙ refused))
+
 pub passed : {r s a : Answer} (next : Answer) → r ≡ a → r ≡ Accepted → s ≡ next → s ≡ (a then next)
-passed next e accepted f = rw (← e, accepted) f
+passed next e accepted f = f ∙ sym (go-on next (sym e ∙ accepted))
+
+-- a refusal leaves what was lent, and acceptance leaves the new
+pub kept : {A : Type 0} {answer : Answer} {why : Refusal} {place : ℕ} (new old : A) → answer ≡ Refused why place → old ≡ left-by answer new old
+kept new old e = rw e
+
+pub renewed : {A : Type 0} {answer : Answer} (new old : A) → answer ≡ Accepted → new ≡ left-by answer new old
+renewed new old e = rw e
 
 -- all is accepted only if each check is
 pub both-accepted : (a b : Answer) → (a then b) ≡ Accepted → (a ≡ Accepted) × (b ≡ Accepted)

@@ -6,11 +6,8 @@ use Prim.Native.Nat.{ℕ, _+_, _≤_}
 use lib.ListN.{length}
 use lib.Dec.{eqb}
 use borrow.Author.Tests.{eqb-true, not-false}
-use Rattle.answers.specs.Answers.{left-by}
-use Rattle.answers.specs.declared.Refusal.{Refusal}
 use Rattle.answers.specs.declared.Refusal.the-variants.{Size}
-use Rattle.answers.specs.declared.Answer.{Answer}
-use Rattle.answers.specs.declared.Answer.the-variants.{Accepted, Refused}
+use Rattle.answers.specs.declared.Answer.the-variants.{Accepted}
 use Rattle.answers.proofs.Laws.{not-refused}
 use Rattle.sheet.specs.Fill.{sheetAnswer}
 use Rattle.procedure.specs.Approach.{isShared, isFree, readApproach}
@@ -68,10 +65,3 @@ sheet-assembled e ew ns l = rw (ew .first, ew .second, ew .pair, ns .first, ns .
 pub sheet-accepted : (d : List ℕ) → sheetAnswer d ≡ Accepted → length d ≡ 209
 unfolding sheetAnswer
 sheet-accepted d h = eqb-true (length d) 209 (not-false _ (not-refused (not (eqb (length d) 209)) Size 0 h))
-
--- a refusal leaves what was lent, and acceptance leaves the new
-pub kept : {A : Type 0} {answer : Answer} {why : Refusal} {place : ℕ} (new old : A) → answer ≡ Refused why place → old ≡ left-by answer new old
-kept new old e = rw e
-
-pub renewed : {A : Type 0} {answer : Answer} (new old : A) → answer ≡ Accepted → new ≡ left-by answer new old
-renewed new old e = rw e

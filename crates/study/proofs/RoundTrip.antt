@@ -15,7 +15,8 @@ use Rattle.answers.specs.Answers.{_then_, refuse-if}
 use Rattle.answers.specs.declared.Refusal.the-variants.{Size, File}
 use Rattle.answers.specs.declared.Answer.the-variants.{Accepted}
 use Rattle.answers.proofs.Laws.{both-accepted, not-refused}
-use Rattle.study.specs.Study.{entryCount, blockBytes, siteLimit, opening, sitesOf, offsetPlace, blockPlace, fileBytes, startsWith}
+use Rattle.entries.specs.Layout.{entryCount}
+use Rattle.study.specs.Study.{blockBytes, siteLimit, opening, sitesOf, offsetPlace, blockPlace, fileBytes, startsWith}
 use Rattle.study.specs.Study.{judgement, countOf, siteAnswer, siteBlock, siteEntries, entriesUpTo, sitesIn, writeAnswer, offsets, fileOf}
 use Rattle.study.proofs.Laws.{WellLaidOut, accepted, laid-out}
 

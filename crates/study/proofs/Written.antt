@@ -7,7 +7,8 @@ use native.Mathlib.Nat.{zero-add}
 use native.Mathlib.Omega.{arith}
 use Rattle.words.specs.Words.{bytesOf, packed, over}
 use Rattle.words.proofs.Laws.{length-bytesOf, length-packed, length-table, over-next, packed-append, packed-one}
-use Rattle.study.specs.Study.{entryCount, opening, blockPlace, fileBytes, offsets, sitesIn, fileOf}
+use Rattle.entries.specs.Layout.{entryCount}
+use Rattle.study.specs.Study.{opening, blockPlace, fileBytes, offsets, sitesIn, fileOf}
 
 length-offsets : (k : ℕ) → length (packed (offsets k)) ≡ 4 * k
 length-offsets k = length-packed (offsets k) ∙ simp (length-table (blockPlace k) k)

@@ -4,17 +4,14 @@ use mathlib.Core.List.{List, [], _∷_, _++_}
 use mathlib.Core.Bool.{Bool, true, false, cond, not}
 use lib.ListN.{length, take, drop}
 use lib.Dec.{ltb, leb, eqb}
+use Rattle.entries.specs.Layout.{entryCount}
 use Rattle.words.specs.Words.{wordAt, wordsIn, table, packed}
 use Rattle.answers.specs.Answers.{_then_, refuse-if, left-by}
 use Rattle.answers.specs.declared.Refusal.the-variants.{Size, File}
 use Rattle.answers.specs.declared.Answer.{Answer}
 use Rattle.answers.specs.declared.Answer.the-variants.{Accepted}
 
--- "blocks of 81 entries"
-abbrev pub entryCount : ℕ
-entryCount = 81
-
--- 324: each entry is a u32, of four bytes
+-- "blocks of 81 entries": 324 bytes, since each entry is a u32, of four bytes
 abbrev pub blockBytes : ℕ
 blockBytes = 4 * entryCount
 

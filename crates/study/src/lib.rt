@@ -14,11 +14,8 @@ ghost use Rattle.study.specs.Study.{siteAnswer, siteBlock, blockAnswer, 
 use answers::Answer;
 use answers::Refusal;
 
-// A site's entries.
-const ENTRY_COUNT: usize = 81;
-
 // A site's block has four bytes for each entry.
-const BLOCK_BYTES: usize = 4 * ENTRY_COUNT;
+const BLOCK_BYTES: usize = 4 * entries::COUNT;
 
 // The most sites that a file holds.
 const SITE_LIMIT: usize = 180;
@@ -231,7 +228,7 @@ pub fn entries_of(block: &[u8], entries: &mut [u32]) -> Answer
     if block.len() != BLOCK_BYTES {
         return Answer::Refused(Refusal::Size, 0);
     }
-    if entries.len() != ENTRY_COUNT {
+    if entries.len() != entries::COUNT {
         return Answer::Refused(Refusal::Size, 0);
     }
     words::read_all(block, entries);
@@ -245,7 +242,7 @@ pub fn site_entries(file: &[u8], site: u32, entries: &mut [u32]) -> Answer
         ≡ left-by (siteEntriesAnswer (now (file .entry)) site (length (now (entries .entry))))
         (siteEntries (now (file .entry)) site) (now (entries .entry)) ⌝ }
 {
-    if entries.len() != ENTRY_COUNT {
+    if entries.len() != entries::COUNT {
         return Answer::Refused(Refusal::Size, 0);
     }
     let answer = site_answer(file, site);
@@ -289,10 +286,10 @@ pub fn write(entries: &[u32], out: &mut [u8]) -> Answer
         ≡ left-by (writeAnswer (now (entries .entry)) (length (now (out .entry))))
         (over (now (out .entry)) 0 (fileOf (now (entries .entry)))) (now (out .entry)) ⌝ }
 {
-    if entries.len() % ENTRY_COUNT != 0 {
+    if entries.len() % entries::COUNT != 0 {
         return Answer::Refused(Refusal::Size, 0);
     }
-    let sites = entries.len() / ENTRY_COUNT;
+    let sites = entries.len() / entries::COUNT;
     if SITE_LIMIT < sites {
         return refused(0);
     }

@@ -12,7 +12,7 @@ impl Rng {
         Rng(seed)
     }
 
-    pub fn next(&mut self) -> u64 {
+    pub fn draw(&mut self) -> u64 {
         self.0 = self.0.wrapping_add(0x9E37_79B9_7F4A_7C15);
         let mut z = self.0;
         z = (z ^ (z >> 30)).wrapping_mul(0xBF58_476D_1CE4_E5B9);
@@ -21,11 +21,11 @@ impl Rng {
     }
 
     pub fn number(&mut self) -> u32 {
-        (self.next() >> 32) as u32
+        (self.draw() >> 32) as u32
     }
 
     pub fn below(&mut self, end: usize) -> usize {
-        ((u128::from(self.next()) * end as u128) >> 64) as usize
+        ((u128::from(self.draw()) * end as u128) >> 64) as usize
     }
 
     pub fn within(&mut self, least: u32, most: u32) -> u32 {
@@ -47,8 +47,9 @@ pub type Sheet = [u32; CELLS];
 
 // ---------------------------------------------------------------- junctions
 
-const VOLUMES: [u32; 16] =
-    [0, 0, 1, 2, 58, 59, 60, 61, 118, 119, 120, 121, 100, 400, 9_998, 9_999];
+const VOLUMES: [u32; 16] = [
+    0, 0, 1, 2, 58, 59, 60, 61, 118, 119, 120, 121, 100, 400, 9_998, 9_999,
+];
 
 /// A volume up to about so many vehicles, often one at which a rule turns.
 fn volume(rng: &mut Rng, most: u32) -> u32 {
@@ -117,7 +118,11 @@ fn volumes(rng: &mut Rng, lanes: &[u32; 4], busy: u32) -> [u32; 3] {
     }
     if shared == 1 && rng.once_in(12) {
         // Many rights and few lefts: only here may line 27 go by vST.
-        v = [rng.within(1, 10), rng.within(2_000, 9_999), rng.within(5_000, 9_999)];
+        v = [
+            rng.within(1, 10),
+            rng.within(2_000, 9_999),
+            rng.within(5_000, 9_999),
+        ];
     }
     if shared == 1 && rng.once_in(12) {
         // Nothing but lefts: the oncoming lefts then go almost unhindered.
@@ -171,14 +176,28 @@ fn copy_approach(e: &mut Entries, from: usize, to: usize) {
     e.copy_within(60 + 5 * from..65 + 5 * from, 60 + 5 * to);
 }
 
+/// The decay number with its last two terms left out, a slip that hardly ever shows.
+fn short_decay(m: u64) -> u64 {
+    if m >= 115_200 {
+        return 0;
+    }
+    let (mut term, mut sum) = (1_000_000_000, 1_000_000_000);
+    for k in 1..11 {
+        term = term * (m % 7_200) / (7_200 * k);
+        sum = if k % 2 == 1 { sum - term } else { sum + term };
+    }
+    (0..m / 7_200).fold(sum, |d, _| d * 367_879_441 / 1_000_000_000)
+}
+
 /// Pedestrians and cycles at which a decay number a few billionths off would show.
 fn walking_edges() -> &'static [(u32, u32)] {
     static EDGES: OnceLock<Vec<(u32, u32)>> = OnceLock::new();
     let near = |number: u64, step: u64, by: u64| (number + by) % step <= 2 * by;
     let edge = |p: u64, cycle: u64| {
-        let often = decay(2 * p * cycle);
-        let blocked = 8 * decay(p * (cycle - 8)) + 16 * decay(4 * p);
-        (often > 100_000 && near(often, 100_000, 3)) || near(blocked, 1_000_000, 40)
+        let blocked = |d: fn(u64) -> u64| 8 * d(p * (cycle - 8)) + 16 * d(4 * p);
+        let (often, held) = (decay(2 * p * cycle), blocked(decay));
+        let short = held / 1_000_000 != blocked(short_decay) / 1_000_000;
+        (often > 100_000 && near(often, 100_000, 3)) || near(held, 1_000_000, 40) || short
     };
     EDGES.get_or_init(|| {
         let all = (1..=2_000).flat_map(|p| (30..=240).map(move |cycle| (p, cycle)));
@@ -277,7 +296,9 @@ fn any_numbers(rng: &mut Rng, length: usize) -> Vec<u32> {
 
 /// A length around those that matter.
 pub fn any_length(rng: &mut Rng) -> usize {
-    let corners = [0, 1, 80, 81, 82, 161, 162, 163, 193, 201, 208, 209, 210, 243, 418];
+    let corners = [
+        0, 1, 80, 81, 82, 161, 162, 163, 193, 201, 208, 209, 210, 243, 418,
+    ];
     match rng.once_in(4) {
         true => rng.below(500),
         false => rng.pick(&corners),
@@ -326,7 +347,10 @@ pub fn amendment(rng: &mut Rng) -> (u32, u32) {
         _ => usual(rng, kind),
     };
     match rng.once_in(25) {
-        true => (rng.pick(&[81, 82, 161, 208, 209, u32::MAX, u32::MAX - 80]), value),
+        true => (
+            rng.pick(&[81, 82, 161, 208, 209, u32::MAX, u32::MAX - 80]),
+            value,
+        ),
         false => (entry, value),
     }
 }
@@ -413,7 +437,9 @@ pub fn laid_out(entries: &[u32]) -> Vec<u8> {
     for j in 0..k {
         file.extend(((8 + 4 * k + 324 * j) as u32).to_le_bytes());
     }
-    entries.iter().for_each(|entry| file.extend(entry.to_le_bytes()));
+    entries
+        .iter()
+        .for_each(|entry| file.extend(entry.to_le_bytes()));
     file
 }
 
@@ -427,10 +453,20 @@ fn put(file: &mut [u8], at: usize, number: u32) {
 /// Lengths at and around the ends of the file's fields.
 fn cut_length(rng: &mut Rng, file: &[u8]) -> usize {
     let k = rules::study_count(file) as usize;
-    let ends = [0, 4, 8, 8 + 4 * k, 8 + 4 * k + 324, file.len(), 8 + 4 * rng.below(k + 1)];
+    let ends = [
+        0,
+        4,
+        8,
+        8 + 4 * k,
+        8 + 4 * k + 324,
+        file.len(),
+        8 + 4 * rng.below(k + 1),
+    ];
     match rng.once_in(3) {
         true => rng.below(file.len() + 1),
-        false => (rng.pick(&ends) + rng.below(5)).saturating_sub(2).min(file.len()),
+        false => (rng.pick(&ends) + rng.below(5))
+            .saturating_sub(2)
+            .min(file.len()),
     }
 }
 
@@ -449,7 +485,13 @@ fn damage(rng: &mut Rng, file: &mut Vec<u8>) {
         4 | 5 => {
             let j = rng.below(k.max(1));
             let right = (8 + 4 * k + 324 * j) as u32;
-            let wrong = [right ^ (1 << rng.below(32)), right + 4, right - 4, 0, u32::MAX];
+            let wrong = [
+                right ^ (1 << rng.below(32)),
+                right + 4,
+                right - 4,
+                0,
+                u32::MAX,
+            ];
             put(file, 8 + 4 * j, rng.pick(&wrong));
         }
         6 => put(file, anywhere / 4 * 4, rng.number()),
@@ -485,7 +527,16 @@ pub fn any_file(rng: &mut Rng) -> Vec<u8> {
 /// A site's number: one the file has, the first it lacks, or far beyond.
 pub fn any_site(rng: &mut Rng, file: &[u8]) -> u32 {
     let k = rules::study_count(file);
-    let beyond = [k, k + 1, 179, 180, 181, 1 << 30, u32::MAX, u32::MAX / 324 + 1];
+    let beyond = [
+        k,
+        k + 1,
+        179,
+        180,
+        181,
+        1 << 30,
+        u32::MAX,
+        u32::MAX / 324 + 1,
+    ];
     match k > 0 && !rng.once_in(4) {
         true => rng.within(0, k - 1),
         false => rng.pick(&beyond),

@@ -13,7 +13,10 @@ struct IcuAnswer {
 
 impl From<IcuAnswer> for Answer {
     fn from(answer: IcuAnswer) -> Answer {
-        Answer { number: answer.number, place: answer.place }
+        Answer {
+            number: answer.number,
+            place: answer.place,
+        }
     }
 }
 
@@ -43,12 +46,7 @@ extern "C" {
         entries: *mut u32,
         entries_len: usize,
     ) -> IcuAnswer;
-    fn icu_study_write(
-        entries: *const u32,
-        len: usize,
-        out: *mut u8,
-        out_len: usize,
-    ) -> IcuAnswer;
+    fn icu_study_write(entries: *const u32, len: usize, out: *mut u8, out_len: usize) -> IcuAnswer;
     fn icu_study_list(
         file: *const u8,
         len: usize,
@@ -61,7 +59,15 @@ extern "C" {
 #[cfg(feature = "fill")]
 pub fn fill(entries: &[u32], sheet: &mut [u32]) -> Answer {
     // SAFETY: both lists are live for the call, of the lengths given, and do not overlap.
-    unsafe { icu_fill(entries.as_ptr(), entries.len(), sheet.as_mut_ptr(), sheet.len()) }.into()
+    unsafe {
+        icu_fill(
+            entries.as_ptr(),
+            entries.len(),
+            sheet.as_mut_ptr(),
+            sheet.len(),
+        )
+    }
+    .into()
 }
 
 #[cfg(feature = "amend")]

@@ -29,16 +29,25 @@ fn wish() -> Option<Wish> {
             Err(_) => return None,
         }
     }
-    let now = || SystemTime::now().duration_since(UNIX_EPOCH).map_or(1, |t| t.as_secs());
+    let now = || {
+        SystemTime::now()
+            .duration_since(UNIX_EPOCH)
+            .map_or(1, |t| t.as_secs())
+    };
     let seed = numbers.get(1).copied().unwrap_or_else(now);
-    Some(Wish { inputs: *numbers.first()?, seed, words })
+    Some(Wish {
+        inputs: *numbers.first()?,
+        seed,
+        words,
+    })
 }
 
 /// The checks asked for, each as often as its share.
 fn chosen(words: &[String]) -> Vec<Check> {
     let asked = |word: &str| words.is_empty() || words.iter().any(|w| w == word);
     let kept = CHECKS.iter().filter(|(word, _, _)| asked(word));
-    kept.flat_map(|&(_, share, check)| std::iter::repeat_n(check, share)).collect()
+    kept.flat_map(|&(_, share, check)| std::iter::repeat_n(check, share))
+        .collect()
 }
 
 fn main() -> ExitCode {
@@ -55,7 +64,11 @@ fn main() -> ExitCode {
     let mut tally = Tally::default();
     for i in 0..wish.inputs {
         // Every input has its own start, so that it can be found again by its number.
-        let mut rng = Rng::new(wish.seed.wrapping_mul(0x2545_F491_4F6C_DD1D).wrapping_add(i << 20));
+        let mut rng = Rng::new(
+            wish.seed
+                .wrapping_mul(0x2545_F491_4F6C_DD1D)
+                .wrapping_add(i << 20),
+        );
         let check = rng.pick(&checks);
         if let Err(text) = check(&mut rng, &mut tally) {
             println!("input {i} of seed {}:\n{text}", wish.seed);

@@ -6,7 +6,9 @@ use compare::rules::{Answer, BLANK, FIRST_LINE, LAST, LINES, PAIRS};
 use std::collections::BTreeMap;
 use std::fmt::{Debug, Write};
 
-const NAMES: [&str; 7] = ["accepted", "SIZE", "ENTRY", "RANGE", "SHARED", "NOLANE", "FILE"];
+const NAMES: [&str; 7] = [
+    "accepted", "SIZE", "ENTRY", "RANGE", "SHARED", "NOLANE", "FILE",
+];
 const APPROACHES: [&str; 4] = ["EB", "WB", "NB", "SB"];
 
 /// How often each answer, and each turn of the rules, came up.
@@ -26,7 +28,9 @@ impl Tally {
     /// Counts the turns that a filled sheet took.
     pub fn filled(&mut self, sheet: &[u32]) {
         self.letters[sheet[LAST + 7] as usize & 7] += 1;
-        picks(sheet).into_iter().for_each(|pick| self.picked[pick % 3] += 1);
+        picks(sheet)
+            .into_iter()
+            .for_each(|pick| self.picked[pick % 3] += 1);
         for a in 0..4 {
             for option in 0..2 {
                 let cell = sheet[FIRST_LINE + LINES * a + 22 + option];
@@ -67,9 +71,12 @@ pub fn cell_name(at: usize) -> String {
             format!("{pair} {}", cells[(at - PAIRS) % 4])
         }
         _ => {
-            let cells =
-                ["EBR", "WBR", "NBR", "SBR", "combined", "required", "ICU", "letter"];
-            cells.get(at - LAST).map_or_else(|| format!("cell {at}"), |cell| cell.to_string())
+            let cells = [
+                "EBR", "WBR", "NBR", "SBR", "combined", "required", "ICU", "letter",
+            ];
+            cells
+                .get(at - LAST)
+                .map_or_else(|| format!("cell {at}"), |cell| cell.to_string())
         }
     }
 }
@@ -87,7 +94,11 @@ pub fn compare<T: Canary + Debug>(
     let _ = write!(text, "\nrules:   {:?}\nlibrary: {:?}\n", ours.0, theirs.0);
     let pairs = ours.1.part().iter().zip(theirs.1.part());
     for (at, (x, y)) in pairs.enumerate().filter(|(_, (x, y))| x != y) {
-        let _ = writeln!(text, "at {at} ({}): rules {x:?}, library {y:?}", cell_name(at));
+        let _ = writeln!(
+            text,
+            "at {at} ({}): rules {x:?}, library {y:?}",
+            cell_name(at)
+        );
     }
     if !ours.1.same_around(theirs.1) {
         let _ = writeln!(text, "cells around the lent list were altered");

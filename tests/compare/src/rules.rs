@@ -121,7 +121,8 @@ pub fn decay(m: u64) -> u64 {
     }
     let (times, r) = (m / 7_200, m % 7_200);
     let (mut term, mut sum) = (1_000_000_000u64, 1_000_000_000u64);
-    for k in 1..=12u64 {
+    // A half-open range unrolls, and every division is then by a constant.
+    for k in 1..13u64 {
         term = term * r / (7_200 * k);
         sum = if k % 2 == 1 { sum - term } else { sum + term };
     }
@@ -157,7 +158,13 @@ struct Approach {
 impl Movement {
     fn read(e: &[u32; ENTRIES], m: usize) -> Movement {
         let at = |j: usize| u64::from(e[5 * m + j]);
-        Movement { lanes: at(0), volume: at(1), ideal: at(2), lost: at(3), least: at(4) }
+        Movement {
+            lanes: at(0),
+            volume: at(1),
+            ideal: at(2),
+            lost: at(3),
+            least: at(4),
+        }
     }
 }
 
@@ -233,7 +240,11 @@ fn green(volume: u64, cycle: u64, flow: u64) -> u64 {
 
 fn volumes(x: &Approach) -> Volumes {
     let folded_left = if x.shared { x.left.volume } else { 0 };
-    let folded_right = if x.right.lanes == 0 { x.right.volume } else { 0 };
+    let folded_right = if x.right.lanes == 0 {
+        x.right.volume
+    } else {
+        0
+    };
     let straight = x.through.volume + folded_right;
     Volumes {
         left: x.left.volume - folded_left,
@@ -277,14 +288,22 @@ fn flows(x: &Approach, v: &Volumes) -> Flows {
         through: through * turning / 10_000_000,
         right: lanes_flow(&x.right, &RIGHT_FACTORS) * 8_500 / 10_000_000,
         straight: through * going / 10_000_000,
-        alone: if x.shared { x.left.ideal * 9_500 / 10_000 } else { left },
+        alone: if x.shared {
+            x.left.ideal * 9_500 / 10_000
+        } else {
+            left
+        },
     }
 }
 
 fn walking(x: &Approach, v: &Volumes, cycle: u64) -> Walking {
     let p = x.walkers;
     if p == 0 {
-        return Walking { right: 0, through: 0, frequency: 0 };
+        return Walking {
+            right: 0,
+            through: 0,
+            frequency: 0,
+        };
     }
     let frequency = match x.button {
         true => 10_000 - decay(2 * p * cycle) / 100_000,
@@ -292,14 +311,22 @@ fn walking(x: &Approach, v: &Volumes, cycle: u64) -> Walking {
     };
     let blocked = || 24_000 - (8 * decay(p * (cycle - 8)) + 16 * decay(4 * p)) / 1_000_000;
     if x.right.lanes > 0 {
-        return Walking { right: blocked(), through: 0, frequency };
+        return Walking {
+            right: blocked(),
+            through: 0,
+            frequency,
+        };
     }
     // Nobody to hold up where no right turns stand in T.
     let through = match v.folded_right {
         0 => 0,
         rights => (blocked() * rights).div_ceil(v.through),
     };
-    Walking { right: 0, through, frequency }
+    Walking {
+        right: 0,
+        through,
+        frequency,
+    }
 }
 
 fn own(e: &[u32; ENTRIES], a: usize, cycle: u64) -> Own {
@@ -308,7 +335,13 @@ fn own(e: &[u32; ENTRIES], a: usize, cycle: u64) -> Own {
     let flows = flows(&entries, &volumes);
     let walking = walking(&entries, &volumes, cycle);
     let reference_through = green(volumes.through, cycle, flows.through) + walking.through;
-    Own { entries, volumes, flows, walking, reference_through }
+    Own {
+        entries,
+        volumes,
+        flows,
+        walking,
+        reference_through,
+    }
 }
 
 impl Own {
@@ -321,7 +354,11 @@ impl Own {
             true => 10_000 * x.left.volume / self.volumes.through,
             false => 0,
         };
-        Oncoming { single, share, straight: self.volumes.straight }
+        Oncoming {
+            single,
+            share,
+            straight: self.volumes.straight,
+        }
     }
 
     /// Lost time and the reference time, weighted by how often somebody walks.
@@ -399,7 +436,11 @@ fn hindered(flow: u64, lanes: u64, q: u64, e: u64) -> u64 {
 
 /// Lines 19 to 22, all 0 where T has no volume.
 fn left_lane(x: &Own, across: &Oncoming, cycle: u64) -> [u64; 4] {
-    let (c, b, n) = (x.volumes.through, x.volumes.folded_left, x.entries.through.lanes);
+    let (c, b, n) = (
+        x.volumes.through,
+        x.volumes.folded_left,
+        x.entries.through.lanes,
+    );
     if c == 0 {
         return [0; 4];
     }
@@ -427,7 +468,9 @@ fn option_a(x: &Own, lane: &[u64; 4], across: &Oncoming, cycle: u64) -> u64 {
         let e = equivalent(10_000, cycle, across.share);
         let flow = hindered(x.flows.left, lanes, 10_000, e);
         let all = green(v.left, cycle, x.flows.left);
-        most = most.max(all).max(green(v.left.div_ceil(lanes), cycle, flow));
+        most = most
+            .max(all)
+            .max(green(v.left.div_ceil(lanes), cycle, flow));
     }
     most
 }
@@ -472,7 +515,10 @@ fn later_lines(x: &Own, across: &Oncoming, cycle: u64, line: &mut [u32; LINES]) 
     };
     // BLANK is above every time, so it loses against one.
     let permitted = a.min(b);
-    let split = x.reference_through.max(straight + x.walking.through).max(alone);
+    let split = x
+        .reference_through
+        .max(straight + x.walking.through)
+        .max(alone);
     line[22] = a;
     line[23] = b;
     line[24] = permitted;
@@ -533,7 +579,12 @@ fn right_total(own: &[Own; 4], line: &[[u32; LINES]; 4], picked: [u32; 2], a: us
     alone + through_time(&line[cross], picked[cross / 2]) + left_time(&line[a ^ 1], picked[a / 2])
 }
 
-fn last_eight(own: &[Own; 4], line: &[[u32; LINES]; 4], pairs: &[[u32; 4]; 2], cycle: u32) -> [u32; 8] {
+fn last_eight(
+    own: &[Own; 4],
+    line: &[[u32; LINES]; 4],
+    pairs: &[[u32; 4]; 2],
+    cycle: u32,
+) -> [u32; 8] {
     let picked = [pairs[0][3], pairs[1][3]];
     let mut last = [0; 8];
     for a in 0..4 {
@@ -592,8 +643,18 @@ const ADJUSTED: u32 = lines(16, 18) | lines(26, 26) | lines(28, 28);
 const WALKERS: u32 = lines(10, 12) | lines(14, 15) | lines(17, 18) | lines(23, 28);
 const WALK_TIME: u32 = lines(17, 17) | lines(26, 26) | lines(28, 28);
 /// Own lines reached by an amendment, by the entry's kind, the cycle apart.
-const REACHED: [u32; 10] =
-    [ALL, ALL, ALL, ADJUSTED, ADJUSTED, ALL, WALKERS, WALK_TIME | lines(12, 12), WALK_TIME, 0];
+const REACHED: [u32; 10] = [
+    ALL,
+    ALL,
+    ALL,
+    ADJUSTED,
+    ADJUSTED,
+    ALL,
+    WALKERS,
+    WALK_TIME | lines(12, 12),
+    WALK_TIME,
+    0,
+];
 const FREE_RIGHT: usize = 9;
 
 fn copy_lines(sheet: &mut [u32; CELLS], fresh: &[u32; CELLS], a: usize, set: u32) {
@@ -616,7 +677,11 @@ fn copy_reached(sheet: &mut [u32; CELLS], fresh: &[u32; CELLS], entry: usize) {
         return;
     }
     let kind = kind_of(entry);
-    let a = if entry < 60 { entry / 15 } else { (entry - 60) / 5 };
+    let a = if entry < 60 {
+        entry / 15
+    } else {
+        (entry - 60) / 5
+    };
     copy_lines(sheet, fresh, a, REACHED[kind]);
     if REACHED[kind] == ALL {
         copy_lines(sheet, fresh, a ^ 1, lines(21, 26));

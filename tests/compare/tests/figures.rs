@@ -49,9 +49,15 @@ fn with(mut e: [u32; ENTRIES], changes: &[(usize, u32)]) -> [u32; ENTRIES] {
 fn k1_plain() {
     let s = sheet(&k1());
     for a in 0..4 {
-        assert_eq!([13, 16, 14, 17].map(|k| line(&s, a, k)), [6_649, 10_649, 25_264, 29_264]);
+        assert_eq!(
+            [13, 16, 14, 17].map(|k| line(&s, a, k)),
+            [6_649, 10_649, 25_264, 29_264]
+        );
     }
-    assert_eq!((s[PAIRS], s[PAIRS + 3], s[PAIRS + 4], s[PAIRS + 7]), (39_913, 0, 39_913, 0));
+    assert_eq!(
+        (s[PAIRS], s[PAIRS + 3], s[PAIRS + 4], s[PAIRS + 7]),
+        (39_913, 0, 39_913, 0)
+    );
     assert_eq!(s[LAST + 5..], [79_826, 666, 2]);
 }
 
@@ -77,7 +83,10 @@ fn k3_walkers() {
 fn k4_to_k6_letters() {
     let empty: Vec<_> = (0..12).map(|m| (5 * m + 1, 0)).collect();
     let s = sheet(&with(k1(), &empty));
-    assert_eq!((s[LAST + 6], s[LAST + 7], s[PAIRS + 3], s[PAIRS + 7]), (0, 0, 0, 0));
+    assert_eq!(
+        (s[LAST + 6], s[LAST + 7], s[PAIRS + 3], s[PAIRS + 7]),
+        (0, 0, 0, 0)
+    );
     assert_eq!((letter(550), letter(551)), (0, 1));
 }
 
@@ -98,5 +107,8 @@ fn the_papers_listing() {
     assert_eq!(study_write(&entries, &mut file), ACCEPTED);
     assert_eq!(listing(&file), b"1 666 C PP\n2 R3 80\n");
     file.pop();
-    assert_eq!(listing(&file), format!("file R6 {}\n", file.len()).as_bytes());
+    assert_eq!(
+        listing(&file),
+        format!("file R6 {}\n", file.len()).as_bytes()
+    );
 }

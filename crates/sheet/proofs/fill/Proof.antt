@@ -1,8 +1,8 @@
 use Rattle.cells.proofs.Laws.{over-whole}
-use Rattle.sheet.proofs.Laws.{sheet-accepted, kept, renewed}
+use Rattle.sheet.proofs.Laws.{sheet-accepted}
 use Rattle.sheet.specs.Fill.{fillAnswer, filled}
 use Rattle.procedure.specs.Sheet.{sheet}
-use Rattle.answers.proofs.Laws.{handed-on, passed}
+use Rattle.answers.proofs.Laws.{handed-on, passed, kept, renewed}
 use lib.ListN.{length}
 use mathlib.Core.Path.{_≡_, sym, _∙_}
 use native.Mathlib.Omega.{arith}

@@ -29,7 +29,11 @@ pub fn site(rng: &mut Rng, tally: &mut Tally) -> Result<(), String> {
     let file = Lent::new(rng, &contents);
     let kept = file.clone();
     let site = generate::any_site(rng, &contents);
-    let length = if rng.once_in(8) { generate::any_length(rng) } else { ENTRIES };
+    let length = if rng.once_in(8) {
+        generate::any_length(rng)
+    } else {
+        ENTRIES
+    };
     let mut ours: Lent<u32> = Lent::anything(rng, length);
     let mut theirs = ours.clone();
     let first = rules::study_site(file.part(), site, ours.part_mut());

@@ -1,0 +1,69 @@
+// The library's calls, for C and Rust to link. None of them asks anything of its caller.
+ghost use mathlib.Core.Path.{_≡_};
+ghost use lib.ListN.{length};
+ghost use Rattle.answers.specs.Answers.{left-by};
+ghost use Rattle.words.specs.Words.{over};
+ghost use Rattle.sheet.specs.Fill.{fillAnswer, filled};
+ghost use Rattle.study.specs.Study.{judgement, countOf, siteEntriesAnswer, siteEntries, writeAnswer, fileOf};
+ghost use Rattle.icu.specs.Told.{told};
+
+use answers::Answer;
+
+// Number 0 is accepted, with place 0; else the refusal's number and place.
+#[repr(C)]
+pub struct IcuAnswer {
+    pub number: u32,
+    pub place: u32,
+}
+
+fn tell(answer: Answer) -> IcuAnswer
+    ensures { λ r. ⌜ r ≡ told answer ⌝ }
+{
+    IcuAnswer {
+        number: answer.number(),
+        place: answer.place(),
+    }
+}
+
+// Fills a sheet of 209 numbers from 81 entries.
+#[no_mangle]
+pub extern "C" fn icu_fill(entries: &[u32], sheet: &mut [u32]) -> IcuAnswer
+    ensures { λ r. ⌜ r ≡ told (fillAnswer (now (entries .entry)) (now (sheet .entry))) ⌝ }
+    ensures { λ r. ⌜ now (sheet .exit) ≡ filled (now (entries .entry)) (now (sheet .entry)) ⌝ }
+{
+    tell(sheet::fill(entries, sheet))
+}
+
+// Judges the layout of a study file.
+#[no_mangle]
+pub extern "C" fn icu_study_check(file: &[u8]) -> IcuAnswer
+    ensures { λ r. ⌜ r ≡ told (judgement (now (file .entry))) ⌝ }
+{
+    tell(study::check(file))
+}
+
+// The sites of a study file; 0 where it is refused.
+#[no_mangle]
+pub extern "C" fn icu_study_count(file: &[u8]) -> u32
+    ensures { λ r. ⌜ r ≡ countOf (now (file .entry)) ⌝ }
+{
+    study::count(file)
+}
+
+// Copies a site's 81 entries out of a study file.
+#[no_mangle]
+pub extern "C" fn icu_study_site(file: &[u8], site: u32, entries: &mut [u32]) -> IcuAnswer
+    ensures { λ r. ⌜ r ≡ told (siteEntriesAnswer (now (file .entry)) site (length (now (entries .entry)))) ⌝ }
+    ensures { λ r. ⌜ now (entries .exit) ≡ left-by (siteEntriesAnswer (now (file .entry)) site (length (now (entries .entry)))) (siteEntries (now (file .entry)) site) (now (entries .entry)) ⌝ }
+{
+    tell(study::site_entries(file, site, entries))
+}
+
+// Writes a study file from the entries of its sites.
+#[no_mangle]
+pub extern "C" fn icu_study_write(entries: &[u32], out: &mut [u8]) -> IcuAnswer
+    ensures { λ r. ⌜ r ≡ told (writeAnswer (now (entries .entry)) (length (now (out .entry)))) ⌝ }
+    ensures { λ r. ⌜ now (out .exit) ≡ left-by (writeAnswer (now (entries .entry)) (length (now (out .entry)))) (over (now (out .entry)) 0 (fileOf (now (entries .entry)))) (now (out .entry)) ⌝ }
+{
+    tell(study::write(entries, out))
+}

@@ -1,0 +1,9 @@
+pub mod Among
+pub mod Merging
+pub mod Tables
+pub mod Cells
+pub mod Street
+pub mod Numbers
+pub mod Lines
+pub mod Parts
+pub mod Untouched

@@ -1,0 +1,18 @@
+//! Rates the capacity of a road junction by Intersection Capacity Utilization 2003.
+//!
+//! Enter a junction with [`Entries`], rate it with [`Sheet::fill`], correct it with
+//! [`Sheet::amend`]; [`study`] keeps many junctions in one file. The work is done by a proved
+//! library; this crate gives its lists of numbers names and types.
+
+#![deny(unsafe_code)]
+
+mod entries;
+mod refusal;
+mod sheet;
+pub mod study;
+#[allow(unsafe_code)]
+mod sys;
+
+pub use entries::{Approach, Entries, Entry, Turn};
+pub use refusal::Refusal;
+pub use sheet::{Pair, Phasing, Sheet};

@@ -1,0 +1,92 @@
+//! The library's calls, each under a safe function; all the unsafe code is here.
+
+use crate::Refusal;
+
+#[repr(C)]
+#[derive(Clone, Copy)]
+struct IcuAnswer {
+    number: u32,
+    place: u32,
+}
+
+extern "C" {
+    fn icu_fill(
+        entries: *const u32,
+        entries_len: usize,
+        sheet: *mut u32,
+        sheet_len: usize,
+    ) -> IcuAnswer;
+    fn icu_amend(sheet: *mut u32, len: usize, entry: u32, value: u32) -> IcuAnswer;
+    fn icu_study_check(file: *const u8, len: usize) -> IcuAnswer;
+    fn icu_study_count(file: *const u8, len: usize) -> u32;
+    fn icu_study_site(
+        file: *const u8,
+        len: usize,
+        site: u32,
+        entries: *mut u32,
+        entries_len: usize,
+    ) -> IcuAnswer;
+    fn icu_study_write(entries: *const u32, len: usize, out: *mut u8, out_len: usize) -> IcuAnswer;
+    fn icu_study_list(
+        file: *const u8,
+        len: usize,
+        out: *mut u8,
+        out_len: usize,
+        length: *mut u32,
+    ) -> IcuAnswer;
+}
+
+fn result(answer: IcuAnswer) -> Result<(), Refusal> {
+    match answer.number {
+        0 => Ok(()),
+        number => Err(Refusal::new(number, answer.place)),
+    }
+}
+
+pub fn fill(entries: &[u32], sheet: &mut [u32]) -> Result<(), Refusal> {
+    // SAFETY: both lists are live for the call, of the lengths given, and do not overlap.
+    result(unsafe {
+        icu_fill(
+            entries.as_ptr(),
+            entries.len(),
+            sheet.as_mut_ptr(),
+            sheet.len(),
+        )
+    })
+}
+
+pub fn amend(sheet: &mut [u32], entry: u32, value: u32) -> Result<(), Refusal> {
+    // SAFETY: the list is live for the call and of the length given.
+    result(unsafe { icu_amend(sheet.as_mut_ptr(), sheet.len(), entry, value) })
+}
+
+pub fn study_check(file: &[u8]) -> Result<(), Refusal> {
+    // SAFETY: the file is live for the call and of the length given.
+    result(unsafe { icu_study_check(file.as_ptr(), file.len()) })
+}
+
+pub fn study_count(file: &[u8]) -> u32 {
+    // SAFETY: the file is live for the call and of the length given.
+    unsafe { icu_study_count(file.as_ptr(), file.len()) }
+}
+
+pub fn study_site(file: &[u8], site: u32, entries: &mut [u32]) -> Result<(), Refusal> {
+    let (list, len) = (entries.as_mut_ptr(), entries.len());
+    // SAFETY: file and list are live for the call, of the lengths given, and do not overlap.
+    result(unsafe { icu_study_site(file.as_ptr(), file.len(), site, list, len) })
+}
+
+pub fn study_write(entries: &[u32], out: &mut [u8]) -> Result<(), Refusal> {
+    let (room, len) = (out.as_mut_ptr(), out.len());
+    // SAFETY: both lists are live for the call, of the lengths given, and do not overlap.
+    result(unsafe { icu_study_write(entries.as_ptr(), entries.len(), room, len) })
+}
+
+/// Gives the length of the listing.
+pub fn study_list(file: &[u8], out: &mut [u8]) -> Result<usize, Refusal> {
+    let (room, len) = (out.as_mut_ptr(), out.len());
+    let mut length = 0;
+    // SAFETY: file, room and length are live for the call, of the lengths given, and apart.
+    let answer = unsafe { icu_study_list(file.as_ptr(), file.len(), room, len, &mut length) };
+    result(answer).map(|()| length as usize)
+}

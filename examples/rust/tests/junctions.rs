@@ -1,0 +1,110 @@
+//! The wrapper's names and types against figures known for two junctions.
+
+use icu::{study, Approach, Entries, Entry, Pair, Phasing, Refusal, Sheet, Turn};
+
+fn junction(lanes: [u32; 3], volumes: [u32; 3], shared: u32) -> Entries {
+    let mut entries = Entries::new();
+    for a in Approach::ALL {
+        for turn in Turn::ALL {
+            entries
+                .set(Entry::Lanes(a, turn), lanes[turn as usize])
+                .set(Entry::Volume(a, turn), volumes[turn as usize])
+                .set(Entry::IdealFlow(a, turn), 1_900)
+                .set(Entry::LostTime(a, turn), 4_000)
+                .set(Entry::MinimumGreen(a, turn), 4_000);
+        }
+        entries.set(Entry::SharedLane(a), shared);
+        entries
+            .set(Entry::PushButton(a), 1)
+            .set(Entry::WalkTime(a), 16_000);
+    }
+    entries.set(Entry::Cycle, 120);
+    entries
+}
+
+fn plain() -> Entries {
+    junction([1, 1, 0], [100, 400, 0], 0)
+}
+
+#[test]
+fn a_plain_junction() {
+    let sheet = Sheet::fill(&plain()).unwrap();
+    assert_eq!(
+        (sheet.required(), sheet.icu(), sheet.letter()),
+        (79_826, 666, 'C')
+    );
+    assert_eq!(sheet.picked(Pair::NorthSouth), Phasing::Protected);
+    assert_eq!(
+        sheet.total(Pair::EastWest, Phasing::Protected),
+        Some(39_913)
+    );
+    assert_eq!(sheet.total(Pair::EastWest, Phasing::Permitted), None);
+    assert_eq!(sheet.line(Approach::Southbound, 17), Some(29_264));
+    assert_eq!(sheet.line(Approach::Southbound, 29), None);
+    assert_eq!(sheet.entries(), plain());
+}
+
+#[test]
+fn shared_lanes() {
+    let sheet = Sheet::fill(&junction([0, 1, 0], [100, 300, 100], 1)).unwrap();
+    assert_eq!((sheet.icu(), sheet.letter()), (829, 'E'));
+    assert_eq!(sheet.total(Pair::EastWest, Phasing::Protected), None);
+    assert_eq!(sheet.picked(Pair::EastWest), Phasing::Permitted);
+    assert_eq!(sheet.line(Approach::Eastbound, 23), Some(45_732));
+}
+
+#[test]
+fn amended_as_filled_afresh() {
+    let mut sheet = Sheet::fill(&plain()).unwrap();
+    let count = Entry::Volume(Approach::Westbound, Turn::Through);
+    sheet.amend(count, 120).unwrap();
+    assert_eq!(sheet.line(Approach::Eastbound, 24), Some(25_264));
+    let mut changed = plain();
+    changed.set(count, 120);
+    assert_eq!(sheet, Sheet::fill(&changed).unwrap());
+}
+
+#[test]
+fn refusals_have_names() {
+    let refused = |entry, value| {
+        let mut sheet = Sheet::fill(&plain()).unwrap();
+        let before = sheet.clone();
+        let answer = sheet.amend(entry, value);
+        assert_eq!(sheet, before);
+        answer.unwrap_err()
+    };
+    let (sb, left) = (Approach::Southbound, Turn::Left);
+    assert_eq!(refused(Entry::Cycle, 29), Refusal::Range(Entry::Cycle));
+    assert_eq!(refused(Entry::SharedLane(sb), 1), Refusal::Shared(sb));
+    assert_eq!(
+        refused(Entry::Lanes(sb, left), 0),
+        Refusal::NoLane(sb, left)
+    );
+    assert_eq!(
+        Sheet::fill(&Entries::new()).unwrap_err().to_string(),
+        "IdealFlow(Eastbound, Left) is out of range"
+    );
+}
+
+#[test]
+fn places_and_names_agree() {
+    for place in 0..Entries::COUNT {
+        assert_eq!(Entry::at(place).map(Entry::place), Some(place));
+    }
+    assert_eq!(Entry::at(Entries::COUNT), None);
+}
+
+#[test]
+fn study_files() {
+    let mut short = plain();
+    short.set(Entry::Cycle, 29);
+    let file = study::write(&[plain(), short.clone()]).unwrap();
+    assert_eq!(study::count(&file), Ok(2));
+    assert_eq!(study::site(&file, 1), Ok(short));
+    assert_eq!(study::site(&file, 2), Err(Refusal::File(4)));
+    assert_eq!(study::list(&file).unwrap(), "1 666 C PP\n2 R3 80\n");
+    assert_eq!(study::count(&file[..663]), Err(Refusal::File(663)));
+    assert_eq!(study::list(&file[..3]).unwrap(), "file R6 3\n");
+    assert_eq!(study::write(&vec![plain(); 181]), Err(Refusal::File(0)));
+    assert_eq!(study::write(&[]).unwrap(), b"ICUS\0\0\0\0");
+}

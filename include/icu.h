@@ -1,0 +1,172 @@
+/*
+ * Rates the capacity of a road junction by Intersection Capacity Utilization 2003:
+ * fills a worksheet, amends it, and reads, writes and lists study files.
+ *
+ * All numbers are whole. Volumes and flows are vehicles per hour, times milliseconds, the cycle
+ * seconds, factors and shares ten-thousandths, the ICU tenths of a percent.
+ *
+ * A list passes as a pointer and the number of its elements. Lists are lent for the call only;
+ * nothing is kept afterwards. No pointer may be null, also where the length is 0, lists of numbers
+ * must be aligned as such, and a list that a call writes may not overlap another. Calls on
+ * different lists may run at the same time.
+ *
+ * Every call says what it refuses. Where several refusals apply, the first in the order of their
+ * numbers is answered, unless the call says otherwise. A refused call alters nothing.
+ */
+#ifndef ICU_H
+#define ICU_H
+
+#include <stddef.h>
+#include <stdint.h>
+
+#ifdef __cplusplus
+extern "C" {
+#endif
+
+/* ------------------------------------------------------------------ answers */
+
+/* Number 0 with place 0 where the call was accepted, else the refusal and where it lies. */
+typedef struct IcuAnswer {
+    uint32_t number;
+    uint32_t place;
+} IcuAnswer;
+
+enum {
+    ICU_ACCEPTED = 0,
+    ICU_SIZE = 1,   /* a list of the wrong length; place 0 */
+    ICU_ENTRY = 2,  /* an amendment of an entry above 80; place 0 */
+    ICU_RANGE = 3,  /* an entry outside its range; place: the lowest such entry, 0 to 80 */
+    ICU_SHARED = 4, /* a shared lane with left lanes or without through lanes;
+                       place: the lowest such approach, 0 to 3 */
+    ICU_NOLANE = 5, /* volume without a lane to use; place: the lowest such movement, 0 to 11 */
+    ICU_FILE = 6    /* a study file badly laid out, a site it lacks, or too little room;
+                       place: see the calls */
+};
+
+/* ------------------------------------------------------------------ the 81 entries */
+
+#define ICU_ENTRIES 81
+
+/* Approaches, and the turns of each; movement 3a + t is turn t of approach a. */
+enum { ICU_EB = 0, ICU_WB = 1, ICU_NB = 2, ICU_SB = 3 };
+enum { ICU_LEFT = 0, ICU_THROUGH = 1, ICU_RIGHT = 2 };
+#define ICU_MOVEMENT(approach, turn) (3 * (approach) + (turn))
+
+/* Places of movement m's entries: 5m + j. */
+#define ICU_LANES(m) (5 * (m))             /* 0 to 6 */
+#define ICU_VOLUME(m) (5 * (m) + 1)        /* 0 to 9,999 vehicles per hour */
+#define ICU_IDEAL_FLOW(m) (5 * (m) + 2)    /* 1,000 to 2,400, usually 1,900 */
+#define ICU_LOST_TIME(m) (5 * (m) + 3)     /* 0 to 20,000 ms */
+#define ICU_MINIMUM_GREEN(m) (5 * (m) + 4) /* 0 to 60,000 ms */
+
+/* Places of approach a's entries: 60 + 5a + j. */
+#define ICU_SHARED_LANE(a) (60 + 5 * (a))     /* 1: a through lane is shared with the lefts */
+#define ICU_PEDESTRIANS(a) (60 + 5 * (a) + 1) /* 0 to 2,000 per hour */
+#define ICU_PUSH_BUTTON(a) (60 + 5 * (a) + 2) /* 1: pedestrians have a button */
+#define ICU_WALK_TIME(a) (60 + 5 * (a) + 3)   /* pedestrian time, 0 to 60,000 ms */
+#define ICU_FREE_RIGHT(a) (60 + 5 * (a) + 4)  /* 1: rights do not wait for a phase */
+
+#define ICU_CYCLE 80 /* 30 to 240 s */
+
+/* Every entry is present and in range, also of a movement without lanes. */
+
+/* ------------------------------------------------------------------ the 209 cells of a sheet */
+
+#define ICU_CELLS 209
+
+/* Cells 0 to 80 are the entries. Then the 28 lines of each approach, k from 1. */
+#define ICU_LINE(a, k) (81 + 28 * (a) + ((k) - 1))
+
+/* Four cells of each pair of approaches: totals in ms, and the index of the least. */
+#define ICU_PAIR_EB_WB 193
+#define ICU_PAIR_NB_SB 197
+enum { ICU_PROTECTED = 0, ICU_PERMITTED = 1, ICU_SPLIT = 2, ICU_PICKED = 3 };
+/* For instance sheet[ICU_PAIR_NB_SB + ICU_PICKED] is 0, 1 or 2: the phasing picked. */
+
+/* The last eight cells. */
+#define ICU_RIGHT_TOTAL(a) (201 + (a)) /* ms, by approach */
+#define ICU_COMBINED 205               /* the two picked totals added, ms */
+#define ICU_REQUIRED 206               /* the largest of combined and the right totals, ms */
+#define ICU_ICU 207                    /* tenths of a percent */
+#define ICU_LETTER 208                 /* 0 for A to 7 for H */
+
+/* "Not allowed": in lines 23 to 26, and in the protected and permitted totals. */
+#define ICU_BLANK UINT32_C(4294967295)
+
+/* ------------------------------------------------------------------ sheets */
+
+/*
+ * Judges the entries and fills the sheet from them: all 209 cells.
+ * Refuses ICU_SIZE (place 0) where entries_len is not 81 or sheet_len not 209, then ICU_RANGE,
+ * ICU_SHARED, ICU_NOLANE. The sheet stays as it was on a refusal; the entries always do.
+ */
+IcuAnswer icu_fill(const uint32_t *entries, size_t entries_len, uint32_t *sheet, size_t sheet_len);
+
+/*
+ * Amends one entry of a sheet: stores the value and rewrites each cell that the entry reaches
+ * with what a fresh fill of the amended entries would hold there. All other cells stay, whatever
+ * they held.
+ * Refuses ICU_SIZE (place 0) where len is not 209, ICU_ENTRY (place 0) where entry is above 80,
+ * then ICU_RANGE, ICU_SHARED, ICU_NOLANE of all the entries as they would stand.
+ * The sheet stays as it was on a refusal.
+ */
+IcuAnswer icu_amend(uint32_t *sheet, size_t len, uint32_t entry, uint32_t value);
+
+/* ------------------------------------------------------------------ study files */
+
+/*
+ * A study file has the bytes "ICUS", the number of sites k (0 to 180), k offsets, and k blocks of
+ * 81 entries, all as 32-bit numbers, low byte first. The calls below do not judge entries by
+ * ICU_RANGE to ICU_NOLANE: a block with bad entries is well laid out.
+ */
+#define ICU_SITES 180
+#define ICU_FILE_BYTES(k) (8 + 328 * (k))
+
+/* Room enough for any listing. */
+#define ICU_LIST_BYTES 4096
+
+/*
+ * Says whether the file is well laid out.
+ * Refuses ICU_FILE: place of the first byte of the first wrong field (opening 0, count 4, offsets
+ * in order), or len where the file is short, a field cut short included, or the first byte too many.
+ */
+IcuAnswer icu_study_check(const uint8_t *file, size_t len);
+
+/* The number of sites in the file; 0 where icu_study_check refuses it. */
+uint32_t icu_study_count(const uint8_t *file, size_t len);
+
+/*
+ * Copies the entries of one site, counted from 0, into a list of 81 numbers.
+ * Refuses ICU_SIZE (place 0) where entries_len is not 81; then ICU_FILE with the place that
+ * icu_study_check gives, or place 4 where a good file lacks the site.
+ * The list stays as it was on a refusal.
+ */
+IcuAnswer icu_study_site(const uint8_t *file, size_t len, uint32_t site, uint32_t *entries,
+                         size_t entries_len);
+
+/*
+ * Writes a study file of len / 81 sites at the front of out: ICU_FILE_BYTES(len / 81) bytes. The
+ * bytes after it stay.
+ * Refuses ICU_SIZE (place 0) where len is not a multiple of 81; then ICU_FILE, place 0 for more
+ * than 180 sites, place 4 where out is too short. All of out stays as it was on a refusal.
+ */
+IcuAnswer icu_study_write(const uint32_t *entries, size_t len, uint8_t *out, size_t out_len);
+
+/*
+ * Puts the listing of the file at the front of out and its length in bytes into *length. There
+ * is one line for each site: its number from 1, the ICU, the letter and both picked phasings as P
+ * (protected), M (permitted) or S (split), such as "1 666 C PP"; or, for a refused site, its
+ * number, R and the refusal's number, and the place, such as "2 R3 80". Each line ends with a
+ * line feed; no zero byte follows. A bad file is accepted too: its listing is the one line
+ * "file R6" and the place. The bytes after the listing stay.
+ * Refuses ICU_FILE, place 4, where out is shorter than the listing; out and *length then stay as
+ * they were. ICU_LIST_BYTES are always enough.
+ */
+IcuAnswer icu_study_list(const uint8_t *file, size_t len, uint8_t *out, size_t out_len,
+                         uint32_t *length);
+
+#ifdef __cplusplus
+}
+#endif
+
+#endif
