@@ -4,6 +4,7 @@ ghost use lib.ListN.{length};
 ghost use Rattle.answers.specs.Answers.{left-by};
 ghost use Rattle.words.specs.Words.{over};
 ghost use Rattle.sheet.specs.Fill.{fillAnswer, filled};
+ghost use Rattle.amend.specs.Amend.{amendAnswer, amended};
 ghost use Rattle.study.specs.Study.{judgement, countOf, siteEntriesAnswer, siteEntries, writeAnswer, fileOf};
 ghost use Rattle.icu.specs.Told.{told};
 
@@ -32,6 +33,15 @@ pub extern "C" fn icu_fill(entries: &[u32], sheet: &mut [u32]) -> IcuAnswer
     ensures { λ r. ⌜ now (sheet .exit) ≡ filled (now (entries .entry)) (now (sheet .entry)) ⌝ }
 {
     tell(sheet::fill(entries, sheet))
+}
+
+// Changes one entry of a sheet, and writes anew every cell that it reaches.
+#[no_mangle]
+pub extern "C" fn icu_amend(sheet: &mut [u32], entry: u32, value: u32) -> IcuAnswer
+    ensures { λ r. ⌜ r ≡ told (amendAnswer (now (sheet .entry)) entry value) ⌝ }
+    ensures { λ r. ⌜ now (sheet .exit) ≡ amended (now (sheet .entry)) entry value ⌝ }
+{
+    tell(amend::amend(sheet, entry, value))
 }
 
 // Judges the layout of a study file.
