@@ -46,7 +46,8 @@ pub fn amend(sheet: &mut [u32], entry: u32, value: u32) -> Answer
     let Answer::Accepted = judged else {
         return judged;
     };
-    let fresh = sheet::fresh(&entries);
+    let mut fresh = [0u32; 209];
+    sheet::write_fresh(&entries, &mut fresh);
     reach::renew(sheet, &fresh, place);
     Answer::Accepted
 }

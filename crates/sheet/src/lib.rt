@@ -10,7 +10,7 @@ ghost use Rattle.entries.specs.Layout.{entryCount};
 ghost use Rattle.entries.specs.Judging.{judged};
 ghost use Rattle.procedure.specs.Approach.{isShared, isFree, readApproach};
 ghost use Rattle.procedure.specs.Pairs.{line, pickOf, pickedTime, throughTime, leftTime, rightTotal};
-ghost use Rattle.procedure.specs.Sheet.{EB, WB, NB, SB, linesAt, pairAt, lastAt, sheet};
+ghost use Rattle.procedure.specs.Sheet.{EB, WB, NB, SB, linesAt, pairAt, lastAt, sheetCount, sheet as sheetOf};
 ghost use Rattle.blocks.specs.Cells.{Bounded};
 ghost use Rattle.sheet.specs.Street.{StreetAt};
 ghost use Rattle.sheet.specs.Fill.{sheetAnswer, fillAnswer, filled};
@@ -102,21 +102,19 @@ fn put_rest(all: &mut [u32], along: [u32; 4], across: [u32; 4], last: [u32; 8])
 }
 
 // The cells of a sheet, from its parts.
-fn gather(entries: &[u32], eb: [u32; 28], wb: [u32; 28], nb: [u32; 28], sb: [u32; 28], along: [u32; 4], across: [u32; 4], last: [u32; 8]) -> [u32; 209]
-    requires { ⌜ length (now entries) ≡ entryCount ⌝ }
-    ensures { λ r. ⌜ r ≡ now (entries .entry) ++ (eb ++ wb ++ nb ++ sb) ++ (along ++ across ++ last) ⌝ }
+fn put_all(sheet: &mut [u32], entries: &[u32], eb: [u32; 28], wb: [u32; 28], nb: [u32; 28], sb: [u32; 28], along: [u32; 4], across: [u32; 4], last: [u32; 8])
+    requires { ⌜ (length (now sheet) ≡ sheetCount) × (length (now entries) ≡ entryCount) ⌝ }
+    ensures { λ _. ⌜ now (sheet .exit) ≡ now (entries .entry) ++ (eb ++ wb ++ nb ++ sb) ++ (along ++ across ++ last) ⌝ }
 {
-    let mut all = [0u32; 209];
-    cells::put(&mut all, 0, entries);
-    put_lines(&mut all, eb, wb, nb, sb);
-    put_rest(&mut all, along, across, last);
-    all
+    cells::put(sheet, 0, entries);
+    put_lines(sheet, eb, wb, nb, sb);
+    put_rest(sheet, along, across, last);
 }
 
-// The sheet of acceptable entries.
-pub fn fresh(entries: &[u32]) -> [u32; 209]
-    requires { ⌜ judged (now entries) ≡ Accepted ⌝ }
-    ensures { λ r. ⌜ r ≡ sheet (now (entries .entry)) ⌝ }
+// Writes the sheet of acceptable entries.
+pub fn write_fresh(entries: &[u32], sheet: &mut [u32])
+    requires { ⌜ (judged (now entries) ≡ Accepted) × (length (now sheet) ≡ sheetCount) ⌝ }
+    ensures { λ _. ⌜ now (sheet .exit) ≡ sheetOf (now (entries .entry)) ⌝ }
 {
     let eb = lines_at(entries, 0, 1);
     let wb = lines_at(entries, 1, 0);
@@ -125,7 +123,7 @@ pub fn fresh(entries: &[u32]) -> [u32; 209]
     let along = pair_at(entries, 0, 1, eb, wb);
     let across = pair_at(entries, 2, 3, nb, sb);
     let last = last_at(entries, eb, wb, nb, sb, along, across);
-    gather(entries, eb, wb, nb, sb, along, across, last)
+    put_all(sheet, entries, eb, wb, nb, sb, along, across, last);
 }
 
 pub fn check_sheet(sheet: &[u32]) -> Answer
@@ -150,7 +148,6 @@ pub fn fill(entries: &[u32], sheet: &mut [u32]) -> Answer
     let Answer::Accepted = judged else {
         return judged;
     };
-    let all = fresh(entries);
-    cells::put(sheet, 0, &all);
+    write_fresh(entries, sheet);
     Answer::Accepted
 }

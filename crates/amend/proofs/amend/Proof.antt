@@ -3,11 +3,9 @@ use Rattle.amend.specs.Amend.{entriesWith, amendAnswer, amended}
 use Rattle.reach.specs.Reach.{merged}
 use Rattle.sheet.proofs.Laws.{sheet-accepted}
 use Rattle.procedure.specs.Sheet.{sheet}
-use Rattle.answers.proofs.Laws.{handed-on, passed, kept, renewed}
-use lib.ListN.{length}
-use mathlib.Core.Path.{_≡_, ap, sym, _∙_}
 use Rattle.entries.specs.Judging.{judged}
-use native.Mathlib.Omega.{arith}
+use Rattle.answers.proofs.Laws.{handed-on, passed, kept, renewed}
+use mathlib.Core.Path.{_≡_, ap, sym, _∙_}
 use denote.Ref.{now}
 use borrow.Author.Needs.{needs}
 use Rattle.amend.proofs.amend.Statement.{statement}
@@ -19,7 +17,7 @@ use Rattle.amend.proofs.entries_with.Reads as entries-with-reads
 use Rattle.entries.proofs.judge.Reads as judge-reads
 use Rattle.reach.proofs.renew.Reads as renew-reads
 use Rattle.sheet.proofs.check_sheet.Reads as check-sheet-reads
-use Rattle.sheet.proofs.fresh.Reads as fresh-reads
+use Rattle.sheet.proofs.write_fresh.Reads as write-fresh-reads
 
 -- src/lib.rt:35:9
 check-sheet-requires : tie.Need-check-sheet-requires
@@ -98,23 +96,27 @@ returns-3 c =
         (passed _ (c .before .before .before .before .before .before .before .before .check-entry .ensures) (c .before .before .before .before .before .before .enum-told3 .given .1) (c .before .before .judge .ensures ∙ ap judged (c .before .before .before .before .entries-with .ensures))) in
     (answer, kept _ _ (sym answer ∙ c .enum-told6 .given .1))
 
--- src/lib.rt:49:30
-slice-aggregate-fresh : tie.Need-slice-aggregate-fresh
-slice-aggregate-fresh c = search needs
+-- src/lib.rt:50:24
+slice-aggregate-write-fresh : tie.Need-slice-aggregate-write-fresh
+slice-aggregate-write-fresh c = search needs
 
--- src/lib.rt:49:17
-fresh-requires : tie.Need-fresh-requires
-fresh-requires c κs = sym (c .before .before .before .judge .ensures) ∙ c .before .enum-told5 .given .1
+-- src/lib.rt:50:34
+slice-aggregate-write-fresh-2 : tie.Need-slice-aggregate-write-fresh-2
+slice-aggregate-write-fresh-2 c = search needs
 
--- src/lib.rt:50:25
+-- src/lib.rt:50:5
+write-fresh-requires : tie.Need-write-fresh-requires
+write-fresh-requires c κs = (sym (c .before .before .before .before .judge .ensures) ∙ c .before .before .enum-told5 .given .1, search needs)
+
+-- src/lib.rt:51:25
 slice-aggregate-renew : tie.Need-slice-aggregate-renew
 slice-aggregate-renew c = search needs
 
--- src/lib.rt:50:5
+-- src/lib.rt:51:5
 renew-requires : tie.Need-renew-requires
 renew-requires c κs =
-    let s = c .before .before .before .before .before .before .before .before .before .before .before .before .before .before .before .before .before .before in
-    (sheet-accepted (now (s .args .sheet)) (sym (c .before .before .before .before .before .before .before .before .before .before .before .before .before .before .before .check-sheet .ensures) ∙ c .before .before .before .before .before .before .before .before .before .before .before .before .before .enum-told .given .1), search needs, entry-accepted (s .args .entry) (sym (c .before .before .before .before .before .before .before .before .before .before .before .before .check-entry .ensures) ∙ c .before .before .before .before .before .before .before .before .before .before .enum-told3 .given .1))
+    let s = c .before .before .before .before .before .before .before .before .before .before .before .before .before .before .before .before .before .before .before .before in
+    (sheet-accepted (now (s .args .sheet)) (sym (c .before .before .before .before .before .before .before .before .before .before .before .before .before .before .before .before .before .check-sheet .ensures) ∙ c .before .before .before .before .before .before .before .before .before .before .before .before .before .before .before .enum-told .given .1), search needs, entry-accepted (s .args .entry) (sym (c .before .before .before .before .before .before .before .before .before .before .before .before .before .before .check-entry .ensures) ∙ c .before .before .before .before .before .before .before .before .before .before .before .before .enum-told3 .given .1))
 
 -- src/lib.rt:31:1
 same-length-4 : tie.Need-same-length-4
@@ -124,12 +126,12 @@ same-length-4 c = search needs
 returns-4 : tie.Need-returns-4
 unfolding amendAnswer amended
 returns-4 c =
-    let s = c .before .before .before .before .before .before .before .before .before .before .before .before .before .before .before .before .before .before .before .before .before in
-    let told = sym (c .before .before .before .before .before .before .before .enum-told5 .given .1) ∙ c .before .before .before .before .before .before .before .before .before .judge .ensures in
+    let s = c .before .before .before .before .before .before .before .before .before .before .before .before .before .before .before .before .before .before .before .before .before .before .before in
+    let told = sym (c .before .before .before .before .before .before .before .before .before .enum-told5 .given .1) ∙ c .before .before .before .before .before .before .before .before .before .before .before .judge .ensures in
     let answer =
-        passed _ (c .before .before .before .before .before .before .before .before .before .before .before .before .before .before .before .before .before .before .check-sheet .ensures) (c .before .before .before .before .before .before .before .before .before .before .before .before .before .before .before .before .enum-told .given .1)
-        (passed _ (c .before .before .before .before .before .before .before .before .before .before .before .before .before .before .before .check-entry .ensures) (c .before .before .before .before .before .before .before .before .before .before .before .before .before .enum-told3 .given .1) (told ∙ ap judged (c .before .before .before .before .before .before .before .before .before .before .before .entries-with .ensures))) in
-    (answer, c .before .before .renew .ensures ∙ rw (c .before .before .before .before .before .fresh .ensures, c .before .before .before .before .before .before .before .before .before .before .before .entries-with .ensures) (renewed (merged (s .args .entry) (sheet (entriesWith (now (s .args .sheet)) (s .args .entry) (s .args .value))) (now (s .args .sheet))) _ (sym answer)))
+        passed _ (c .before .before .before .before .before .before .before .before .before .before .before .before .before .before .before .before .before .before .before .before .check-sheet .ensures) (c .before .before .before .before .before .before .before .before .before .before .before .before .before .before .before .before .before .before .enum-told .given .1)
+        (passed _ (c .before .before .before .before .before .before .before .before .before .before .before .before .before .before .before .before .before .check-entry .ensures) (c .before .before .before .before .before .before .before .before .before .before .before .before .before .before .before .enum-told3 .given .1) (told ∙ ap judged (c .before .before .before .before .before .before .before .before .before .before .before .before .before .entries-with .ensures))) in
+    (answer, c .before .before .renew .ensures ∙ rw (c .before .before .before .before .before .before .write-fresh .ensures, c .before .before .before .before .before .before .before .before .before .before .before .before .before .entries-with .ensures) (renewed (merged (s .args .entry) (sheet (entriesWith (now (s .args .sheet)) (s .args .entry) (s .args .value))) (now (s .args .sheet))) _ (sym answer)))
 
 pub amend-spec : {M : Type 1} → statement M
 amend-spec =
@@ -152,8 +154,9 @@ amend-spec =
     enum-told-6
     same-length-3
     returns-3
-    slice-aggregate-fresh
-    fresh-requires
+    slice-aggregate-write-fresh
+    slice-aggregate-write-fresh-2
+    write-fresh-requires
     slice-aggregate-renew
     renew-requires
     same-length-4
