@@ -6,6 +6,7 @@ ghost use Rattle.words.specs.Words.{over};
 ghost use Rattle.sheet.specs.Fill.{fillAnswer, filled};
 ghost use Rattle.amend.specs.Amend.{amendAnswer, amended};
 ghost use Rattle.study.specs.Study.{judgement, countOf, siteEntriesAnswer, siteEntries, writeAnswer, fileOf};
+ghost use Rattle.listing.specs.Listing.{listing, listAnswer};
 ghost use Rattle.icu.specs.Told.{told};
 
 use answers::Answer;
@@ -76,4 +77,14 @@ pub extern "C" fn icu_study_write(entries: &[u32], out: &mut [u8]) -> IcuAnswer
     ensures { λ r. ⌜ now (out .exit) ≡ left-by (writeAnswer (now (entries .entry)) (length (now (out .entry)))) (over (now (out .entry)) 0 (fileOf (now (entries .entry)))) (now (out .entry)) ⌝ }
 {
     tell(study::write(entries, out))
+}
+
+// Lists a study file as text, at the front of the lent bytes, and gives the text's length.
+#[no_mangle]
+pub extern "C" fn icu_study_list(file: &[u8], out: &mut [u8], written: &mut u32) -> IcuAnswer
+    ensures { λ r. ⌜ r ≡ told (listAnswer (now (file .entry)) (length (now (out .entry)))) ⌝ }
+    ensures { λ r. ⌜ now (out .exit) ≡ left-by (listAnswer (now (file .entry)) (length (now (out .entry)))) (over (now (out .entry)) 0 (listing (now (file .entry)))) (now (out .entry)) ⌝ }
+    ensures { λ r. ⌜ now (written .exit) ≡ left-by (listAnswer (now (file .entry)) (length (now (out .entry)))) (length (listing (now (file .entry)))) (now (written .entry)) ⌝ }
+{
+    tell(listing::list(file, out, written))
 }

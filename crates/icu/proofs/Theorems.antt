@@ -1,0 +1,81 @@
+-- The theorems that everything else serves. Each is stated in the words of the definitions and points to its proof.
+--
+-- What a call answers and leaves is an equation with a definition, at the call itself (src/lib.rt). So these theorems, which
+-- speak of the definitions alone, hold of what the calls do.
+use mathlib.Core.Path.{_≡_, refl, sym, _∙_}
+use mathlib.Core.Bool.{false}
+use mathlib.Core.List.{List}
+use Prim.Native.Nat.{ℕ, _<_, _≤_, _^_}
+use lib.ListN.{length, getD, set, take}
+use Rattle.answers.specs.Answers.{left-by}
+use Rattle.answers.specs.declared.Refusal.{Refusal}
+use Rattle.answers.specs.declared.Answer.{Answer}
+use Rattle.answers.specs.declared.Answer.the-variants.{Accepted, Refused}
+use Rattle.answers.proofs.Laws.{kept, renewed}
+use Rattle.entries.specs.Judging.{judged}
+use Rattle.procedure.specs.Sheet.{sheet}
+use Rattle.procedure.specs.Junctions.{workedOut, given}
+use Rattle.procedure.proofs.Compared.{compared}
+use Rattle.sheet.specs.Fill.{fillAnswer, filled}
+use Rattle.amend.specs.Amend.{amendAnswer, amended, Change, amendedBy, entriesBy, reachedBy}
+use Rattle.amend.proofs.Laws.{amended-is-fresh, refused-stays, run-is-fresh, run-keeps}
+use Rattle.words.specs.Words.{AllBelow, over}
+use Rattle.study.specs.Study.{judgement, countOf, writeAnswer, fileOf, fileBytes, sitesIn, entriesUpTo}
+use Rattle.study.proofs.RoundTrip as round
+use Rattle.study.proofs.LongFile as long
+
+-- DEMAND 1. Every call finishes and asks nothing of its caller: the check proves that of every function, and no call of the
+-- crate icu has a `requires`. A refusal comes exactly when the table says: the answers are `fillAnswer`, `amendAnswer`,
+-- `judgement`, `siteEntriesAnswer` and `writeAnswer`. And a refusal alters nothing:
+pub refused-fill : {why : Refusal} {place : ℕ} (e d : List ℕ) → fillAnswer e d ≡ Refused why place → filled e d ≡ d
+unfolding filled
+refused-fill e d refused = sym (kept (sheet e) d refused)
+
+pub refused-amendment : {why : Refusal} {place : ℕ} (d : List ℕ) (i v : ℕ) → amendAnswer d i v ≡ Refused why place → amended d i v ≡ d
+refused-amendment = refused-stays
+
+-- what any call lends back by `left-by`: a site's entries, a written file, a listing
+pub refused-call : {A : Type 0} {answer : Answer} {why : Refusal} {place : ℕ} (new old : A) → answer ≡ Refused why place → left-by answer new old ≡ old
+refused-call new old refused = sym (kept new old refused)
+
+-- DEMAND 2. An accepted fill leaves the procedure, line by line: the 209 cells of `sheet e`.
+pub filled-sheet : (e d : List ℕ) → fillAnswer e d ≡ Accepted → filled e d ≡ sheet e
+unfolding filled
+filled-sheet e d accepted = sym (renewed (sheet e) d accepted)
+
+-- K1 to K10: every number that the rules give for them comes out of the definitions.
+pub junctions : workedOut ≡ given
+junctions = compared
+
+-- A study file written and read back gives the same sites ..
+pub written-and-read :
+    (entries area : List ℕ) → AllBelow (2 ^ 32) entries → writeAnswer entries (length area) ≡ Accepted
+    → round.ReadBack entries (take (fileBytes (sitesIn entries)) (over area 0 (fileOf entries)))
+written-and-read = round.written-read
+
+-- .. and a good one read and written gives the same bytes.
+pub read-and-written : (file : List ℕ) → AllBelow 256 file → judgement file ≡ Accepted → fileOf (entriesUpTo file (countOf file)) ≡ file
+read-and-written = round.read-written
+
+-- A file longer than any good one is judged by its first 59,049 bytes.
+pub long-file : (file : List ℕ) → 59_049 ≤ length file → judgement (take 59_049 file) ≡ judgement file
+long-file = long.first-bytes-decide
+
+-- DEMAND 3. An accepted amendment of one entry, on a sheet filled from acceptable entries, gives exactly the fresh fill of the
+-- amended entries.
+pub amendment : (e : List ℕ) → judged e ≡ Accepted → (i v : ℕ) → amendAnswer (sheet e) i v ≡ Accepted → amended (sheet e) i v ≡ sheet (set e i v)
+amendment = amended-is-fresh
+
+-- Over any run, refused ones among them, it is the fresh fill of the starting entries with the accepted changes made in order.
+pub run-of-amendments : (run : List Change) (e : List ℕ) → judged e ≡ Accepted → amendedBy run (sheet e) ≡ sheet (entriesBy run e)
+run-of-amendments = run-is-fresh
+
+-- On any sheet at all, over any run, no cell changes outside what the accepted amendments reach.
+pub outside-the-reach :
+    (run : List Change) (d : List ℕ) (k : ℕ) → k < length d → reachedBy run d k ≡ false → getD (amendedBy run d) k 0 ≡ getD d k 0
+outside-the-reach = run-keeps
+
+-- ANY TWO OUTCOMES AGREE. Each promise says of the answer, and of every lent number afterwards, that it equals a function of the
+-- inputs; so whatever two outcomes it allows are the same.
+pub same-outcome : {A : Type 0} {promised : A} (one other : A) → one ≡ promised → other ≡ promised → one ≡ other
+same-outcome one other e f = e ∙ sym f
