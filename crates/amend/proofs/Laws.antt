@@ -65,10 +65,10 @@ record Stepped (e d : List ℕ) : Type 0 where
 
 step : (e : List ℕ) → judged e ≡ Accepted → (i v : ℕ) (answer : Answer) → (entryAnswer i then judged (set e i v)) ≡ answer → Stepped (left-by answer (set e i v) e) (amended (sheet e) i v)
 step e ok i v Accepted told =
-    record
-      { is = amended-is-fresh e ok i v (same e ok i v ∙ told)
-      ; ok = both-accepted (entryAnswer i) (judged (set e i v)) told .1
-      }
+    record {
+      is = amended-is-fresh e ok i v (same e ok i v ∙ told);
+      ok = both-accepted (entryAnswer i) (judged (set e i v)) told .1;
+    }
 step e ok i v (Refused why place) told = record { is = refused-stays (sheet e) i v (same e ok i v ∙ told); ok = ok }
 
 -- over any run, refused amendments among them, the sheet is the fresh fill of the entries with the accepted changes made in order
@@ -99,10 +99,10 @@ unfolding amended
 cell-kept d i v k h Accepted accepted out =
     let long = merged-long d i v accepted in
     rw accepted
-    record
-      { long = length-merged (reached i) 0 (sheet (entriesWith d i v)) d long
-      ; cell = merged-cell (reached i) (sheet (entriesWith d i v)) d long k h ∙ rw out
-      }
+    record {
+      long = length-merged (reached i) 0 (sheet (entriesWith d i v)) d long;
+      cell = merged-cell (reached i) (sheet (entriesWith d i v)) d long k h ∙ rw out;
+    }
 cell-kept d i v k h (Refused why place) refused out = rw refused record { long = refl; cell = refl }
 
 neither : (x y : Bool) → (x || y) ≡ false → (x ≡ false) × (y ≡ false)

@@ -3,7 +3,6 @@ ghost use mathlib.Core.Path.{_≡_};
 ghost use Prim.Native.Nat.{_<_};
 ghost use lib.ListN.{length};
 ghost use Rattle.amend.specs.Amend.{entriesWith, entryAnswer, amendAnswer, amended};
-
 use answers::Answer;
 use answers::Refusal;
 

@@ -30,13 +30,13 @@ copied-more {list} {at} {part} {cells} {i} room h c =
     let x = getD part i 0 in
     let front : length (take i part) ≡ i = length-take-le i part (omega arith) in
     let e : set cells (at + i) x ≡ over list at (take (i + 1) part) =
-        store-over cells (at + i) x (omega (arith, c .long))
-        ∙ rw (c .is, add-one i, take-suc part i 0 h) (over-next list at i (take i part) (x ∷ []) front (omega arith)) in
-    record
-      { few = omega arith
-      ; long = ap length e ∙ length-over list at (take (i + 1) part) (omega (arith, length-take-le (i + 1) part (omega arith)))
-      ; is = e
-      }
+    store-over cells (at + i) x (omega (arith, c .long))
+    ∙ rw (c .is, add-one i, take-suc part i 0 h) (over-next list at i (take i part) (x ∷ []) front (omega arith)) in
+    record {
+      few = omega arith;
+      long = ap length e ∙ length-over list at (take (i + 1) part) (omega (arith, length-take-le (i + 1) part (omega arith)));
+      is = e;
+    }
 
 pub copied-all :
     {list : List ℕ} {at : ℕ} {part cells : List ℕ} {i : ℕ} → length part ≤ i → Copied list at part cells i → cells ≡ over list at part

@@ -4,7 +4,6 @@ ghost use Prim.Native.Nat.{_*_, _+_, _≤_, max};
 ghost use Rattle.kinds.specs.declared.Kind.the-variants.{Volume, LostTime, MinimumGreen, PedestrianTime, Cycle};
 ghost use Rattle.kinds.specs.Kinds.{mostOf};
 ghost use Rattle.procedure.specs.Lines.{time, adjustedOf, weightedOf};
-
 use units::Ms;
 use units::Vph;
 

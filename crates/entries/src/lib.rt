@@ -4,7 +4,6 @@ ghost use Prim.Native.Nat.{_<_, _≤_};
 ghost use lib.ListN.{length};
 ghost use Rattle.entries.specs.Layout.{entryCount, movementEntry, approachEntry};
 ghost use Rattle.entries.specs.Judging.{sizeAnswer, outside, badlyShared, otherLanes, unserved, countOf, faulty, eachAnswer, judged};
-
 use answers::Answer;
 use answers::Refusal;
 use kinds::Group;

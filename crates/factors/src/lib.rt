@@ -2,12 +2,28 @@
 ghost use mathlib.Core.Path.{_≡_};
 ghost use Prim.Native.Nat.{_≤_};
 ghost use Rattle.factors.specs.Factors.{laneFactor, sixOf};
-
 use kinds::Group;
 
 // One to six lanes of the left, the through and the right group.
 const TABLE: [u32; 18] = [
-    1_000, 971, 971, 971, 971, 971, 1_000, 952, 908, 908, 908, 908, 1_000, 885, 885, 885, 885, 885,
+    1_000,
+    971,
+    971,
+    971,
+    971,
+    971,
+    1_000,
+    952,
+    908,
+    908,
+    908,
+    908,
+    1_000,
+    885,
+    885,
+    885,
+    885,
+    885,
 ];
 
 fn six_of(group: Group) -> usize

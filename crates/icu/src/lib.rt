@@ -8,7 +8,6 @@ ghost use Rattle.amend.specs.Amend.{amendAnswer, amended};
 ghost use Rattle.study.specs.Study.{judgement, countOf, siteEntriesAnswer, siteEntries, writeAnswer, fileOf};
 ghost use Rattle.listing.specs.Listing.{listing, listAnswer};
 ghost use Rattle.icu.specs.Told.{told};
-
 use answers::Answer;
 
 // Number 0 is accepted, with place 0; else the refusal's number and place.

@@ -4,7 +4,6 @@
 ghost use mathlib.Core.Path.{_≡_};
 ghost use Prim.Native.Nat.{_<_};
 ghost use Rattle.kinds.specs.Kinds.{limitsOf, inRange, movementKind, approachKind, kindAt, groupAt, groupOf};
-
 use units::Ms;
 use units::Vph;
 

@@ -20,21 +20,42 @@ module _ {s o : Approach} {CL : ℕ} {v : Volumes} {f : Flows} {w : Walking} {t 
   unfolding lines firstLines laterLines
   assembled =
       rw (
-        ev .left, ev .through, ev .right,
-        ef .turning, ef .left, ef .through, ef .right, ef .straight, ef .lefts,
-        ew .right, ew .through, ew .frequency,
-        et .left, et .through, et .right, et .adjustedleft, et .adjustedthrough, et .adjustedright,
-        el .heaviest, el .share, el .equivalent, el .flow,
-        ep .a, ep .b, ep .lesser, ep .weighted,
-        ex .largest, ex .weighted,
+        ev .left,
+        ev .through,
+        ev .right,
+        ef .turning,
+        ef .left,
+        ef .through,
+        ef .right,
+        ef .straight,
+        ef .lefts,
+        ew .right,
+        ew .through,
+        ew .frequency,
+        et .left,
+        et .through,
+        et .right,
+        et .adjustedleft,
+        et .adjustedthrough,
+        et .adjustedright,
+        el .heaviest,
+        el .share,
+        el .equivalent,
+        el .flow,
+        ep .a,
+        ep .b,
+        ep .lesser,
+        ep .weighted,
+        ex .largest,
+        ex .weighted,
       )
 
   pub bounded : Bounded (gathered v f w t lane p x)
   bounded =
-      record
-        { line16 = et .adjustedleft-most
-        ; line17 = et .adjustedthrough-most
-        ; line18 = et .adjustedright-most
-        ; line26 = ep .weighted-timely
-        ; line28 = ex .weighted-most
-        }
+      record {
+        line16 = et .adjustedleft-most;
+        line17 = et .adjustedthrough-most;
+        line18 = et .adjustedright-most;
+        line26 = ep .weighted-timely;
+        line28 = ex .weighted-most;
+      }

@@ -4,7 +4,6 @@ ghost use Rattle.procedure.specs.Lines.{lines};
 ghost use Rattle.procedure.specs.Ranges.{Fair, FairCycle};
 ghost use Rattle.blocks.specs.Cells.{Bounded};
 ghost use Rattle.lines.specs.Gathered.{gathered};
-
 use blocks::Flows;
 use blocks::Lane;
 use blocks::Permitted;
@@ -15,7 +14,15 @@ use blocks::Walking;
 use procedure::Approach;
 
 // The stages' numbers, in the lines' order.
-fn gather(v: Volumes, f: Flows, w: Walking, t: Times, lane: Lane, p: Permitted, x: Split) -> [u32; 28]
+fn gather(
+    v: Volumes,
+    f: Flows,
+    w: Walking,
+    t: Times,
+    lane: Lane,
+    p: Permitted,
+    x: Split,
+) -> [u32; 28]
     ensures { λ r. ⌜ r ≡ gathered v f w t lane p x ⌝ }
 {
     [

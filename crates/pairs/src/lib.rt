@@ -6,7 +6,6 @@ ghost use lib.Dec.{eqb, leb};
 ghost use Rattle.procedure.specs.Lines.{BLANK};
 ghost use Rattle.procedure.specs.Pairs.{protected, permitted, split, picked, pair};
 ghost use Rattle.blocks.specs.Cells.{Bounded};
-
 use units::Ms;
 
 // Where a phasing is not allowed.
@@ -63,5 +62,10 @@ pub fn pair_of(shared: bool, x: [u32; 28], y: [u32; 28]) -> [u32; 4]
     let protected = protected_time(shared, Ms(x[15]), Ms(x[16]), Ms(y[15]), Ms(y[16]));
     let permitted = permitted_time(Ms(x[25]), Ms(y[25]));
     let split = Ms(x[27] + y[27]);
-    [protected.0, permitted.0, split.0, pick(protected, permitted, split)]
+    [
+        protected.0,
+        permitted.0,
+        split.0,
+        pick(protected, permitted, split),
+    ]
 }

@@ -73,13 +73,13 @@ module _ (e : List ℕ) (ok : judged e ≡ Accepted) (k : ℕ) (few : k < 4) whe
   fair-group : (g : Group) → FairGroup (readApproach e k) g
   unfolding readMovement
   fair-group g =
-      record
-        { lanes = subst (λ (m : Movement). Within Lanes (m .lanes .0)) (sym (is-read g)) (at g 0 (lit< tt))
-        ; counted = subst (λ (m : Movement). Within Volume (m .volume .0 .0)) (sym (is-read g)) (at g 1 (lit< tt))
-        ; ideal = subst (λ (m : Movement). Within IdealFlow (m .ideal .0 .0)) (sym (is-read g)) (at g 2 (lit< tt))
-        ; lost = subst (λ (m : Movement). Within LostTime (m .lost .0 .0)) (sym (is-read g)) (at g 3 (lit< tt))
-        ; green = subst (λ (m : Movement). Within MinimumGreen (m .green .0 .0)) (sym (is-read g)) (at g 4 (lit< tt))
-        }
+      record {
+        lanes = subst (λ (m : Movement). Within Lanes (m .lanes .0)) (sym (is-read g)) (at g 0 (lit< tt));
+        counted = subst (λ (m : Movement). Within Volume (m .volume .0 .0)) (sym (is-read g)) (at g 1 (lit< tt));
+        ideal = subst (λ (m : Movement). Within IdealFlow (m .ideal .0 .0)) (sym (is-read g)) (at g 2 (lit< tt));
+        lost = subst (λ (m : Movement). Within LostTime (m .lost .0 .0)) (sym (is-read g)) (at g 3 (lit< tt));
+        green = subst (λ (m : Movement). Within MinimumGreen (m .green .0 .0)) (sym (is-read g)) (at g 4 (lit< tt));
+      }
 
   -- what serves a counted movement: lanes of its own, or those that `otherLanes` names
   serves : (g : Group) → 0 < counted e (movementNo k g) → 0 < lanes e (movementNo k g) + otherLanes e k g
@@ -103,20 +103,20 @@ module _ (e : List ℕ) (ok : judged e ≡ Accepted) (k : ℕ) (few : k < 4) whe
       (⊎-elim
       (λ w. ⊎-elim (λ u. shared-through (u .0)) (λ u. omega arith) (positive (eqb (shared e k) 1) (counted e (left k)) 0 w))
       (λ w.
-        ⊎-elim (λ u. omega (arith, serves Right (u .1), eqb-true (lanes e (right k)) 0 (u .0))) (λ u. omega arith)
-        (positive (eqb (lanes e (right k)) 0) (counted e (right k)) 0 w)))
+      ⊎-elim (λ u. omega (arith, serves Right (u .1), eqb-true (lanes e (right k)) 0 (u .0))) (λ u. omega arith)
+      (positive (eqb (lanes e (right k)) 0) (counted e (right k)) 0 w)))
       (one-of-three (counted e (through k)) (cond (eqb (shared e k) 1) (counted e (left k)) 0) (cond (eqb (lanes e (right k)) 0) (counted e (right k)) 0) h)
 
   pub fair : Fair (readApproach e k)
   unfolding readApproach
   fair =
-      record
-        { group = fair-group
-        ; walkers = accepted-approach e ok k 1 few (lit< tt)
-        ; crossing = accepted-approach e ok k 3 few (lit< tt)
-        ; served = served
-        ; shares = shared-through
-        }
+      record {
+        group = fair-group;
+        walkers = accepted-approach e ok k 1 few (lit< tt);
+        crossing = accepted-approach e ok k 3 few (lit< tt);
+        served = served;
+        shares = shared-through;
+      }
 
 pub fair-cycle : (e : List ℕ) → judged e ≡ Accepted → FairCycle (cycle e)
 unfolding kindAt

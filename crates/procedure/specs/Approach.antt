@@ -12,27 +12,27 @@ use Rattle.procedure.specs.declared.Approach.{Approach}
 -- "Movement m has entries 5m to 5m+4"
 unfoldable pub readMovement : List ℕ → ℕ → Movement
 readMovement e m =
-    record
-      { lanes = record { 0 = movementEntry e m 0 }
-      ; volume = record { 0 = record { 0 = movementEntry e m 1 } }
-      ; ideal = record { 0 = record { 0 = movementEntry e m 2 } }
-      ; lost = record { 0 = record { 0 = movementEntry e m 3 } }
-      ; green = record { 0 = record { 0 = movementEntry e m 4 } }
-      }
+    record {
+      lanes = record { 0 = movementEntry e m 0 };
+      volume = record { 0 = record { 0 = movementEntry e m 1 } };
+      ideal = record { 0 = record { 0 = movementEntry e m 2 } };
+      lost = record { 0 = record { 0 = movementEntry e m 3 } };
+      green = record { 0 = record { 0 = movementEntry e m 4 } };
+    }
 
 -- "Approach a has 60+5a onward"
 unfoldable pub readApproach : List ℕ → ℕ → Approach
 readApproach e a =
-    record
-      { left = readMovement e (left a)
-      ; through = readMovement e (through a)
-      ; right = readMovement e (right a)
-      ; shared = record { 0 = approachEntry e a 0 }
-      ; walkers = record { 0 = approachEntry e a 1 }
-      ; button = record { 0 = approachEntry e a 2 }
-      ; crossing = record { 0 = record { 0 = approachEntry e a 3 } }
-      ; free = record { 0 = approachEntry e a 4 }
-      }
+    record {
+      left = readMovement e (left a);
+      through = readMovement e (through a);
+      right = readMovement e (right a);
+      shared = record { 0 = approachEntry e a 0 };
+      walkers = record { 0 = approachEntry e a 1 };
+      button = record { 0 = approachEntry e a 2 };
+      crossing = record { 0 = record { 0 = approachEntry e a 3 } };
+      free = record { 0 = approachEntry e a 4 };
+    }
 
 abbrev pub movementOf : Approach → Group → Movement
 movementOf s Left = s .left

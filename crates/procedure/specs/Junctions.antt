@@ -65,7 +65,7 @@ abbrev pub workedOut : List (List ℕ)
 workedOut =
     (line 13 (eb K1) ∷ line 16 (eb K1) ∷ line 14 (eb K1) ∷ line 17 (eb K1) ∷ cell K1 193 ∷ cell K1 206 ∷ cell K1 207 ∷ cell K1 208 ∷ [])
     ∷ (line 4 (eb K2) ∷ line 6 (eb K2) ∷ line 20 (eb K2) ∷ line 21 (eb K2) ∷ line 22 (eb K2) ∷ line 23 (eb K2)
-        ∷ cell K2 195 ∷ cell K2 194 ∷ cell K2 196 ∷ cell K2 207 ∷ cell K2 208 ∷ [])
+    ∷ cell K2 195 ∷ cell K2 194 ∷ cell K2 196 ∷ cell K2 207 ∷ cell K2 208 ∷ [])
     ∷ (decayNumber (2 * 60 * 120) ∷ line 12 (eb K3) ∷ line 17 (eb K3) ∷ [])
     ∷ (cell K4 207 ∷ cell K4 208 ∷ cell K4 196 ∷ cell K4 200 ∷ [])
     ∷ (letterOf 550 ∷ [])

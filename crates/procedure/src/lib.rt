@@ -6,7 +6,6 @@ ghost use Prim.Native.Nat.{_<_};
 ghost use lib.ListN.{length};
 ghost use Rattle.entries.specs.Layout.{entryCount};
 ghost use Rattle.procedure.specs.Approach.{readMovement, readApproach};
-
 use kinds::FreeRight;
 use kinds::IdealFlow;
 use kinds::Lanes;

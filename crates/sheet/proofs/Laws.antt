@@ -33,24 +33,24 @@ small {e} {a} {o} {x} {y} {cells} s =
     let is : cells ≡ pair shared x y = rw (s .first, s .second) (s .pair) in
     let bx = s .first-bounded in
     let by = s .second-bounded in
-    record
-      { few = rw is (pick-few shared x y bx by)
-      ; picked = rw is (picked-most shared x y bx by)
-      ; through-first = rw is (through-most shared x y bx by .0)
-      ; through-second = rw is (through-most shared x y bx by .1)
-      ; left-first = rw is (left-most shared x y bx by x bx)
-      ; left-second = rw is (left-most shared x y bx by y by)
-      }
+    record {
+      few = rw is (pick-few shared x y bx by);
+      picked = rw is (picked-most shared x y bx by);
+      through-first = rw is (through-most shared x y bx by .0);
+      through-second = rw is (through-most shared x y bx by .1);
+      left-first = rw is (left-most shared x y bx by x bx);
+      left-second = rw is (left-most shared x y bx by y by);
+    }
 
 pub last-assembled :
     (e : List ℕ) {eb wb nb sb along across : List ℕ} → StreetAt e EB WB eb wb along → StreetAt e NB SB nb sb across
     → lastOf
-      (rightTotal (isFree (readApproach e EB)) eb (throughTime across sb) (leftTime along wb))
-      (rightTotal (isFree (readApproach e WB)) wb (throughTime across nb) (leftTime along eb))
-      (rightTotal (isFree (readApproach e NB)) nb (throughTime along eb) (leftTime across sb))
-      (rightTotal (isFree (readApproach e SB)) sb (throughTime along wb) (leftTime across nb))
-      (pickedTime along + pickedTime across)
-      (cycle e)
+    (rightTotal (isFree (readApproach e EB)) eb (throughTime across sb) (leftTime along wb))
+    (rightTotal (isFree (readApproach e WB)) wb (throughTime across nb) (leftTime along eb))
+    (rightTotal (isFree (readApproach e NB)) nb (throughTime along eb) (leftTime across sb))
+    (rightTotal (isFree (readApproach e SB)) sb (throughTime along wb) (leftTime across nb))
+    (pickedTime along + pickedTime across)
+    (cycle e)
     ≡ lastAt e
 unfolding lastAt rightAt
 last-assembled e ew ns = rw (ew .first, ew .second, ew .pair, ns .first, ns .second, ns .pair)

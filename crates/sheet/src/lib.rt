@@ -14,7 +14,6 @@ ghost use Rattle.procedure.specs.Sheet.{EB, WB, NB, SB, linesAt, pairAt, lastAt
 ghost use Rattle.blocks.specs.Cells.{Bounded};
 ghost use Rattle.sheet.specs.Street.{StreetAt};
 ghost use Rattle.sheet.specs.Fill.{sheetAnswer, fillAnswer, filled};
-
 use answers::Answer;
 use answers::Refusal;
 use procedure::Approach;
@@ -53,7 +52,15 @@ fn pair_at(entries: &[u32], a: usize, o: usize, first: [u32; 28], second: [u32; 
 }
 
 // The right total of approach a, from its lines, those opposite it, and those of the through that crosses it.
-fn right_at(entries: &[u32], a: usize, lines: [u32; 28], oncoming: [u32; 28], pair: [u32; 4], cross: [u32; 28], crosspair: [u32; 4]) -> Ms
+fn right_at(
+    entries: &[u32],
+    a: usize,
+    lines: [u32; 28],
+    oncoming: [u32; 28],
+    pair: [u32; 4],
+    cross: [u32; 28],
+    crosspair: [u32; 4],
+) -> Ms
     requires { ⌜ (length (now entries) ≡ entryCount) × (a < 4) × (line 18 lines ≤ 10_444_000) × (throughTime crosspair cross ≤ 20_888_000) × (leftTime pair oncoming ≤ 10_444_000) ⌝ }
     ensures { λ r. ⌜ r .0 ≡ rightTotal (isFree (readApproach (now (entries .entry)) a)) lines (throughTime crosspair cross) (leftTime pair oncoming) ⌝ }
 {
@@ -70,7 +77,15 @@ fn combined(along: [u32; 4], across: [u32; 4]) -> Ms
 }
 
 // The last eight cells, from the lines and pairs of the two streets.
-fn last_at(entries: &[u32], eb: [u32; 28], wb: [u32; 28], nb: [u32; 28], sb: [u32; 28], along: [u32; 4], across: [u32; 4]) -> [u32; 8]
+fn last_at(
+    entries: &[u32],
+    eb: [u32; 28],
+    wb: [u32; 28],
+    nb: [u32; 28],
+    sb: [u32; 28],
+    along: [u32; 4],
+    across: [u32; 4],
+) -> [u32; 8]
     requires { ⌜ (judged (now entries) ≡ Accepted) × StreetAt (now entries) EB WB eb wb along × StreetAt (now entries) NB SB nb sb across ⌝ }
     ensures { λ r. ⌜ r ≡ lastAt (now (entries .entry)) ⌝ }
 {
@@ -102,7 +117,17 @@ fn put_rest(all: &mut [u32], along: [u32; 4], across: [u32; 4], last: [u32; 8])
 }
 
 // The cells of a sheet, from its parts.
-fn put_all(sheet: &mut [u32], entries: &[u32], eb: [u32; 28], wb: [u32; 28], nb: [u32; 28], sb: [u32; 28], along: [u32; 4], across: [u32; 4], last: [u32; 8])
+fn put_all(
+    sheet: &mut [u32],
+    entries: &[u32],
+    eb: [u32; 28],
+    wb: [u32; 28],
+    nb: [u32; 28],
+    sb: [u32; 28],
+    along: [u32; 4],
+    across: [u32; 4],
+    last: [u32; 8],
+)
     requires { ⌜ (length (now sheet) ≡ sheetCount) × (length (now entries) ≡ entryCount) ⌝ }
     ensures { λ _. ⌜ now (sheet .exit) ≡ now (entries .entry) ++ (eb ++ wb ++ nb ++ sb) ++ (along ++ across ++ last) ⌝ }
 {

@@ -7,7 +7,6 @@ ghost use Rattle.kinds.specs.declared.Kind.the-variants.{Cycle};
 ghost use Rattle.kinds.specs.Kinds.{Within};
 ghost use Rattle.procedure.specs.Pairs.{line, pickOf, pickedTime, throughTime, leftTime, rightTotal, icuOf, letterOf};
 ghost use Rattle.procedure.specs.Sheet.{lastOf};
-
 use units::Ms;
 
 // The time of an approach's through, by the pick of its pair.
@@ -53,11 +52,23 @@ fn right_total(free: bool, lines: [u32; 28], cross: Ms, left: Ms) -> Ms
 }
 
 // The right total of an approach, from its own pair and the pair that crosses it.
-pub fn right_of(free: bool, lines: [u32; 28], oncoming: [u32; 28], pair: [u32; 4], cross: [u32; 28], crosspair: [u32; 4]) -> Ms
+pub fn right_of(
+    free: bool,
+    lines: [u32; 28],
+    oncoming: [u32; 28],
+    pair: [u32; 4],
+    cross: [u32; 28],
+    crosspair: [u32; 4],
+) -> Ms
     requires { ⌜ (line 18 lines ≤ 10_444_000) × (throughTime crosspair cross ≤ 20_888_000) × (leftTime pair oncoming ≤ 10_444_000) ⌝ }
     ensures { λ r. ⌜ r .0 ≡ rightTotal free lines (throughTime crosspair cross) (leftTime pair oncoming) ⌝ }
 {
-    right_total(free, lines, through_time(crosspair, cross), left_time(pair, oncoming))
+    right_total(
+        free,
+        lines,
+        through_time(crosspair, cross),
+        left_time(pair, oncoming),
+    )
 }
 
 // The time of a pair's picked phasing.
@@ -110,5 +121,14 @@ pub fn last_of(eb: Ms, wb: Ms, nb: Ms, sb: Ms, combined: Ms, cycle: u32) -> [u32
     let rights = clock::larger(clock::larger(eb, wb), clock::larger(nb, sb));
     let required = clock::larger(combined, rights);
     let icu = icu_of(required, cycle);
-    [eb.0, wb.0, nb.0, sb.0, combined.0, required.0, icu, letter_of(icu)]
+    [
+        eb.0,
+        wb.0,
+        nb.0,
+        sb.0,
+        combined.0,
+        required.0,
+        icu,
+        letter_of(icu),
+    ]
 }

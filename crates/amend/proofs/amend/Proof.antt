@@ -10,127 +10,98 @@ use denote.Ref.{now}
 use borrow.Author.Needs.{needs}
 use Rattle.amend.proofs.amend.Statement.{statement}
 use Rattle.amend.proofs.amend.Tie as tie
-use Rattle.amend.proofs.amend.Reads as reads
-use Rattle.amend.proofs.amend.Lts as lts
-use Rattle.amend.proofs.check_entry.Reads as check-entry-reads
-use Rattle.amend.proofs.entries_with.Reads as entries-with-reads
-use Rattle.entries.proofs.judge.Reads as judge-reads
-use Rattle.reach.proofs.renew.Reads as renew-reads
-use Rattle.sheet.proofs.check_sheet.Reads as check-sheet-reads
-use Rattle.sheet.proofs.write_fresh.Reads as write-fresh-reads
 
--- src/lib.rt:35:9
 check-sheet-requires : tie.Need-check-sheet-requires
 check-sheet-requires c κs = search needs
 
 enum-told : tie.Need-enum-told
 enum-told c = search needs
 
--- src/lib.rt:37:9
 enum-told-2 : tie.Need-enum-told-2
 enum-told-2 c = search needs
 
--- src/lib.rt:37:9
 same-length : tie.Need-same-length
 same-length c = search needs
 
--- src/lib.rt:37:9
 returns : tie.Need-returns
 unfolding amendAnswer amended
 returns c =
     let answer = handed-on _ (c .before .before .check-sheet .ensures) (c .enum-told2 .given .1) in
     (answer, kept _ _ (sym answer ∙ c .enum-told2 .given .1))
 
--- src/lib.rt:39:9
 check-entry-requires : tie.Need-check-entry-requires
 check-entry-requires c κs = search needs
 
 enum-told-3 : tie.Need-enum-told-3
 enum-told-3 c = search needs
 
--- src/lib.rt:41:9
 enum-told-4 : tie.Need-enum-told-4
 enum-told-4 c = search needs
 
--- src/lib.rt:41:9
 same-length-2 : tie.Need-same-length-2
 same-length-2 c = search needs
 
--- src/lib.rt:41:9
 returns-2 : tie.Need-returns-2
 unfolding amendAnswer amended
 returns-2 c =
     let answer =
-        passed _ (c .before .before .before .before .before .check-sheet .ensures) (c .before .before .before .enum-told .given .1) (handed-on _ (c .before .before .check-entry .ensures) (c .enum-told4 .given .1)) in
+    passed _ (c .before .before .before .before .before .check-sheet .ensures) (c .before .before .before .enum-told .given .1) (handed-on _ (c .before .before .check-entry .ensures) (c .enum-told4 .given .1)) in
     (answer, kept _ _ (sym answer ∙ c .enum-told4 .given .1))
 
--- src/lib.rt:44:19
 entries-with-requires : tie.Need-entries-with-requires
 entries-with-requires c κs = (sheet-accepted _ (sym (c .before .before .before .before .before .before .check-sheet .ensures) ∙ c .before .before .before .before .enum-told .given .1), entry-accepted _ (sym (c .before .before .before .check-entry .ensures) ∙ c .before .enum-told3 .given .1))
 
--- src/lib.rt:45:33
 slice-aggregate-judge : tie.Need-slice-aggregate-judge
 slice-aggregate-judge c = search needs
 
--- src/lib.rt:45:9
 judge-requires : tie.Need-judge-requires
 judge-requires c κs = search needs
 
 enum-told-5 : tie.Need-enum-told-5
 enum-told-5 c = search needs
 
--- src/lib.rt:47:9
 enum-told-6 : tie.Need-enum-told-6
 enum-told-6 c = search needs
 
--- src/lib.rt:47:9
 same-length-3 : tie.Need-same-length-3
 same-length-3 c = search needs
 
--- src/lib.rt:47:9
 returns-3 : tie.Need-returns-3
 unfolding amendAnswer amended
 returns-3 c =
     let answer =
-        passed _ (c .before .before .before .before .before .before .before .before .before .before .before .check-sheet .ensures) (c .before .before .before .before .before .before .before .before .before .enum-told .given .1)
-        (passed _ (c .before .before .before .before .before .before .before .before .check-entry .ensures) (c .before .before .before .before .before .before .enum-told3 .given .1) (c .before .before .judge .ensures ∙ ap judged (c .before .before .before .before .entries-with .ensures))) in
+    passed _ (c .before .before .before .before .before .before .before .before .before .before .before .check-sheet .ensures) (c .before .before .before .before .before .before .before .before .before .enum-told .given .1)
+    (passed _ (c .before .before .before .before .before .before .before .before .check-entry .ensures) (c .before .before .before .before .before .before .enum-told3 .given .1) (c .before .before .judge .ensures ∙ ap judged (c .before .before .before .before .entries-with .ensures))) in
     (answer, kept _ _ (sym answer ∙ c .enum-told6 .given .1))
 
--- src/lib.rt:50:24
 slice-aggregate-write-fresh : tie.Need-slice-aggregate-write-fresh
 slice-aggregate-write-fresh c = search needs
 
--- src/lib.rt:50:34
 slice-aggregate-write-fresh-2 : tie.Need-slice-aggregate-write-fresh-2
 slice-aggregate-write-fresh-2 c = search needs
 
--- src/lib.rt:50:5
 write-fresh-requires : tie.Need-write-fresh-requires
 write-fresh-requires c κs = (sym (c .before .before .before .before .judge .ensures) ∙ c .before .before .enum-told5 .given .1, search needs)
 
--- src/lib.rt:51:25
 slice-aggregate-renew : tie.Need-slice-aggregate-renew
 slice-aggregate-renew c = search needs
 
--- src/lib.rt:51:5
 renew-requires : tie.Need-renew-requires
 renew-requires c κs =
     let s = c .before .before .before .before .before .before .before .before .before .before .before .before .before .before .before .before .before .before .before .before in
     (sheet-accepted (now (s .args .sheet)) (sym (c .before .before .before .before .before .before .before .before .before .before .before .before .before .before .before .before .before .check-sheet .ensures) ∙ c .before .before .before .before .before .before .before .before .before .before .before .before .before .before .before .enum-told .given .1), search needs, entry-accepted (s .args .entry) (sym (c .before .before .before .before .before .before .before .before .before .before .before .before .before .before .check-entry .ensures) ∙ c .before .before .before .before .before .before .before .before .before .before .before .before .enum-told3 .given .1))
 
--- src/lib.rt:31:1
 same-length-4 : tie.Need-same-length-4
 same-length-4 c = search needs
 
--- src/lib.rt:31:1
 returns-4 : tie.Need-returns-4
 unfolding amendAnswer amended
 returns-4 c =
     let s = c .before .before .before .before .before .before .before .before .before .before .before .before .before .before .before .before .before .before .before .before .before .before .before in
     let told = sym (c .before .before .before .before .before .before .before .before .before .enum-told5 .given .1) ∙ c .before .before .before .before .before .before .before .before .before .before .before .judge .ensures in
     let answer =
-        passed _ (c .before .before .before .before .before .before .before .before .before .before .before .before .before .before .before .before .before .before .before .before .check-sheet .ensures) (c .before .before .before .before .before .before .before .before .before .before .before .before .before .before .before .before .before .before .enum-told .given .1)
-        (passed _ (c .before .before .before .before .before .before .before .before .before .before .before .before .before .before .before .before .before .check-entry .ensures) (c .before .before .before .before .before .before .before .before .before .before .before .before .before .before .before .enum-told3 .given .1) (told ∙ ap judged (c .before .before .before .before .before .before .before .before .before .before .before .before .before .entries-with .ensures))) in
+    passed _ (c .before .before .before .before .before .before .before .before .before .before .before .before .before .before .before .before .before .before .before .before .check-sheet .ensures) (c .before .before .before .before .before .before .before .before .before .before .before .before .before .before .before .before .before .before .enum-told .given .1)
+    (passed _ (c .before .before .before .before .before .before .before .before .before .before .before .before .before .before .before .before .before .check-entry .ensures) (c .before .before .before .before .before .before .before .before .before .before .before .before .before .before .before .enum-told3 .given .1) (told ∙ ap judged (c .before .before .before .before .before .before .before .before .before .before .before .before .before .entries-with .ensures))) in
     (answer, c .before .before .renew .ensures ∙ rw (c .before .before .before .before .before .before .write-fresh .ensures, c .before .before .before .before .before .before .before .before .before .before .before .before .before .entries-with .ensures) (renewed (merged (s .args .entry) (sheet (entriesWith (now (s .args .sheet)) (s .args .entry) (s .args .value))) (now (s .args .sheet))) _ (sym answer)))
 
 pub amend-spec : {M : Type 1} → statement M

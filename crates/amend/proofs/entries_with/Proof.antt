@@ -9,34 +9,25 @@ use Prim.Native.Nat.{ℕ}
 use borrow.Author.Needs.{needs}
 use Rattle.amend.proofs.entries_with.Statement.{statement}
 use Rattle.amend.proofs.entries_with.Tie as tie
-use Rattle.amend.proofs.entries_with.Reads as reads
-use Rattle.amend.proofs.entries_with.Lts as lts
-use Rattle.cells.proofs.put.Reads as put-reads
 
 part : (s : tie.Start) → length (take 81 (now (s .args .sheet))) ≡ 81
 part s = length-take-le 81 (now (s .args .sheet)) (omega (arith, s .pre))
 
--- src/lib.rt:25:16
 slice-aggregate-put : tie.Need-slice-aggregate-put
 slice-aggregate-put c = search needs
 
--- src/lib.rt:25:33
 slice-aggregate-put-2 : tie.Need-slice-aggregate-put-2
 slice-aggregate-put-2 c = omega (arith, part (c .before .before .before))
 
--- src/lib.rt:25:5
 put-requires : tie.Need-put-requires
 put-requires c κs = omega (arith, part (c .before .before .before))
 
--- src/lib.rt:26:5
 mul-entries : tie.Need-mul-entries
 mul-entries c = search needs
 
--- src/lib.rt:26:5
 array-write-entries : tie.Need-array-write-entries
 array-write-entries c = search needs
 
--- src/lib.rt:20:1
 returns : tie.Need-returns
 unfolding entriesWith
 returns c = rw (c .before .put .ensures, over-whole (replicate 81 0) (take 81 (now (c .before .before .before .before .before .args .sheet))) (omega (arith, part (c .before .before .before .before .before))))

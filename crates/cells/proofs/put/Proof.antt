@@ -4,8 +4,6 @@ use lib.ListN.{length}
 use Prim.Native.Nat.{_-_}
 use Rattle.cells.proofs.put.Statement.{statement}
 use Rattle.cells.proofs.put.Tie as tie
-use Rattle.cells.proofs.put.Reads as reads
-use Rattle.cells.proofs.put.Lts as lts
 
 abbrev Inv-loop : tie.InvT-loop
 Inv-loop cells₀ at part i₀ cells i = Copied cells₀ at part cells i
@@ -13,47 +11,36 @@ Inv-loop cells₀ at part i₀ cells i = Copied cells₀ at part cells i
 abbrev μ-loop : tie.MeasureT-loop
 μ-loop cells₀ at part i₀ cells i = length part - i
 
--- src/lib.rt:13:5
 loop-holds : tie.Need-loop-holds Inv-loop μ-loop
 loop-holds c = copied-none _ _ _
 
--- src/lib.rt:14:25
 mul-cells : tie.Need-mul-cells Inv-loop μ-loop
 mul-cells c = search needs
 
--- src/lib.rt:14:25
 shared-slice-read-cells : tie.Need-shared-slice-read-cells Inv-loop μ-loop
 shared-slice-read-cells c = search needs
 
--- src/lib.rt:14:15
 add-cells : tie.Need-add-cells Inv-loop μ-loop
 add-cells c = search needs
 
--- src/lib.rt:14:9
 mul-cells-2 : tie.Need-mul-cells-2 Inv-loop μ-loop
 mul-cells-2 c = search needs
 
--- src/lib.rt:14:9
 slice-write-cells : tie.Need-slice-write-cells Inv-loop μ-loop
 slice-write-cells c = search needs
 
--- src/lib.rt:15:9
 add-i : tie.Need-add-i Inv-loop μ-loop
 add-i c = search needs
 
--- src/lib.rt:13:5
 loop-less : tie.Need-loop-less Inv-loop μ-loop
 loop-less c = search needs
 
--- src/lib.rt:13:5
 loop-again : tie.Need-loop-again Inv-loop μ-loop
 loop-again c = copied-more (c .before .before .before .pre) (c .before .loop-test .taken) (c .before .before .loop .inv)
 
--- src/lib.rt:8:1
 same-length : tie.Need-same-length Inv-loop μ-loop
 same-length c = search needs
 
--- src/lib.rt:8:1
 returns : tie.Need-returns Inv-loop μ-loop
 returns c = copied-all (c .loop-test .left) (c .before .loop .inv)
 

@@ -3,19 +3,13 @@ use native.Mathlib.Omega.{arith}
 use borrow.Author.Needs.{needs}
 use Rattle.clock.proofs.adjust.Statement.{statement}
 use Rattle.clock.proofs.adjust.Tie as tie
-use Rattle.clock.proofs.adjust.Reads as reads
-use Rattle.clock.proofs.adjust.Lts as lts
-use Rattle.clock.proofs.larger.Reads as larger-reads
 
--- src/lib.rt:30:17
 larger-requires : tie.Need-larger-requires
 larger-requires c κs = search needs
 
--- src/lib.rt:30:8
 add-t5 : tie.Need-add-t5
 add-t5 c = search needs
 
--- src/lib.rt:26:1
 returns : tie.Need-returns
 unfolding adjustedOf
 returns c = omega arith

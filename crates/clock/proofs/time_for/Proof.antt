@@ -5,9 +5,6 @@ use Prim.Native.Nat.{_*_, _≤_}
 use borrow.Author.Needs.{needs}
 use Rattle.clock.proofs.time_for.Statement.{statement}
 use Rattle.clock.proofs.time_for.Tie as tie
-use Rattle.clock.proofs.time_for.Reads as reads
-use Rattle.clock.proofs.time_for.Lts as lts
-use Rattle.units.proofs.divide_up.Reads as divide-up-reads
 
 room : (s : tie.Start) → 1000 * s .args .volume .0 * s .args .cycle ≤ 7_199_280_000
 room s = volume-room (s .args .volume .0) (s .args .cycle) (s .pre .0) (s .pre .1)
@@ -15,32 +12,25 @@ room s = volume-room (s .args .volume .0) (s .args .cycle) (s .pre .0) (s .pre .
 most : (s : tie.Start) → time (s .args .volume .0) (s .args .cycle) (s .args .flow .0) ≤ 1_800_000_000
 most s = time-most 7_500 (s .args .volume .0) (s .args .cycle) (s .args .flow .0) (s .pre .1) (s .pre .2)
 
--- src/lib.rt:16:33
 cast-divide-up : tie.Need-cast-divide-up
 cast-divide-up c = search needs
 
--- src/lib.rt:16:25
 mul-divide-up : tie.Need-mul-divide-up
 mul-divide-up c = search needs
 
--- src/lib.rt:16:25
 mul-divide-up-2 : tie.Need-mul-divide-up-2
 mul-divide-up-2 c = omega (arith, room (c .before))
 
--- src/lib.rt:16:68
 cast-divide-up-2 : tie.Need-cast-divide-up-2
 cast-divide-up-2 c = search needs
 
--- src/lib.rt:16:8
 divide-up-requires : tie.Need-divide-up-requires
 divide-up-requires c κs = omega (arith, room (c .before .before))
 
--- src/lib.rt:16:8
 cast-t10 : tie.Need-cast-t10
 unfolding time
 cast-t10 c = omega (arith, most (c .before .before .before), c .divide-up .ensures)
 
--- src/lib.rt:12:1
 returns : tie.Need-returns
 unfolding time
 returns c = (c .divide-up .ensures, omega (arith, most (c .before .before .before), c .divide-up .ensures))

@@ -6,10 +6,6 @@ use Prim.Native.Nat.{_*_, _-_, _≤_}
 use borrow.Author.Needs.{needs}
 use Rattle.clock.proofs.weigh.Statement.{statement}
 use Rattle.clock.proofs.weigh.Tie as tie
-use Rattle.clock.proofs.weigh.Reads as reads
-use Rattle.clock.proofs.weigh.Lts as lts
-use Rattle.clock.proofs.larger.Reads as larger-reads
-use Rattle.units.proofs.divide_up.Reads as divide-up-reads
 
 share :
     (d : tie.After-divide-up)
@@ -19,51 +15,41 @@ share d =
     let a = b .before in
     rw (d .divide-up .ensures) (walkers-share (b .larger2 .result .0 - a .larger .result .0) (a .before .args .frequency) (a .before .pre .3))
 
--- src/lib.rt:38:9
 larger-requires : tie.Need-larger-requires
 larger-requires c κs = search needs
 
--- src/lib.rt:39:9
 larger-requires-2 : tie.Need-larger-requires-2
 larger-requires-2 c κs = search needs
 
--- src/lib.rt:40:37
 sub-divide-up : tie.Need-sub-divide-up
 sub-divide-up c = search needs
 
--- src/lib.rt:40:36
 cast-divide-up : tie.Need-cast-divide-up
 cast-divide-up c = search needs
 
--- src/lib.rt:40:36
 mul-divide-up : tie.Need-mul-divide-up
 mul-divide-up c =
     let beyond = c .before .before .larger2 .result .0 - c .before .before .before .larger .result .0 in
     omega (arith, walkers-room beyond (c .before .before .before .before .args .frequency) (omega arith) (omega arith))
 
--- src/lib.rt:40:9
 divide-up-requires : tie.Need-divide-up-requires
 divide-up-requires c κs =
     let beyond = c .before .before .larger2 .result .0 - c .before .before .before .larger .result .0 in
     omega (arith, walkers-room beyond (c .before .before .before .before .args .frequency) (omega arith) (omega arith))
 
--- src/lib.rt:41:8
 add-t9 : tie.Need-add-t9
 add-t9 c = search needs
 
--- src/lib.rt:41:23
 cast-t13 : tie.Need-cast-t13
 cast-t13 c =
     let d = c .before .before in
     omega (arith, share d)
 
--- src/lib.rt:41:8
 add-t14 : tie.Need-add-t14
 add-t14 c =
     let d = c .before .before in
     omega (arith, share d, d .before .before .before .larger2 .ensures, d .before .before .before .before .larger .ensures, d .before .before .before .before .before .pre)
 
--- src/lib.rt:34:1
 returns : tie.Need-returns
 unfolding weightedOf
 returns c =

@@ -7,10 +7,6 @@ use mathlib.Core.Path.{_≡_, _∙_}
 use Prim.Native.Nat.{_-_, _/_, _≤_}
 use Rattle.decay.proofs.decay_number.Statement.{statement}
 use Rattle.decay.proofs.decay_number.Tie as tie
-use Rattle.decay.proofs.decay_number.Reads as reads
-use Rattle.decay.proofs.decay_number.Lts as lts
-use Rattle.decay.proofs.fade.Reads as fade-reads
-use Rattle.decay.proofs.series.Reads as series-reads
 
 abbrev Inv-loop : tie.InvT-loop
 Inv-loop m c d₀ i₀ d i = (i ≤ c) × (d ≤ 1_000_000_000) × (d ≡ faded d₀ i)
@@ -18,38 +14,30 @@ Inv-loop m c d₀ i₀ d i = (i ≤ c) × (d ≤ 1_000_000_000) × (d ≡ faded 
 abbrev μ-loop : tie.MeasureT-loop
 μ-loop m c d₀ i₀ d i = c - i
 
--- src/lib.rt:47:9
 returns : tie.Need-returns Inv-loop μ-loop
 unfolding decayNumber
 returns c = (rw (le-leb _ _ (c .if1 .taken)), search needs)
 
--- src/lib.rt:50:9
 series-requires : tie.Need-series-requires Inv-loop μ-loop
 series-requires c κs = search needs
 
--- src/lib.rt:52:5
 loop-holds : tie.Need-loop-holds Inv-loop μ-loop
 unfolding faded
 loop-holds c = search needs
 
--- src/lib.rt:53:9
 fade-requires : tie.Need-fade-requires Inv-loop μ-loop
 fade-requires c κs = search needs
 
--- src/lib.rt:54:9
 add-i : tie.Need-add-i Inv-loop μ-loop
 add-i c = search needs
 
--- src/lib.rt:52:5
 loop-less : tie.Need-loop-less Inv-loop μ-loop
 loop-less c = search needs
 
--- src/lib.rt:52:5
 loop-again : tie.Need-loop-again Inv-loop μ-loop
 unfolding faded
 loop-again c = (search needs, search needs, c .fade .ensures .0 ∙ rw add-one (cc))
 
--- src/lib.rt:43:1
 returns-2 : tie.Need-returns-2 Inv-loop μ-loop
 unfolding decayNumber
 returns-2 c =

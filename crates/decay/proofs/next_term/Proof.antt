@@ -5,21 +5,16 @@ use Prim.Native.Nat.{_≤_}
 use borrow.Author.Needs.{needs}
 use Rattle.decay.proofs.next_term.Statement.{statement}
 use Rattle.decay.proofs.next_term.Tie as tie
-use Rattle.decay.proofs.next_term.Reads as reads
-use Rattle.decay.proofs.next_term.Lts as lts
 
--- src/lib.rt:14:5
 mul-result : tie.Need-mul-result
 mul-result c =
     let h : c .args .term ≤ 1_000_000_000 = c .pre .0 in
     let k : c .args .r ≤ 7200 = omega arith in
     omega (arith, mul-le-mul h k)
 
--- src/lib.rt:14:5
 div-result : tie.Need-div-result
 div-result c = search needs
 
--- src/lib.rt:10:1
 returns : tie.Need-returns
 returns c = (search needs, part-most (c .args .term) (c .args .r) (c .args .d) (omega arith))
 

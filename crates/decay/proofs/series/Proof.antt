@@ -7,9 +7,6 @@ use mathlib.Core.Path.{_≡_, refl, _∙_, ap}
 use Prim.Native.Nat.{ℕ, _+_, _-_, _*_, _/_, _<_, _≤_}
 use Rattle.decay.proofs.series.Statement.{statement}
 use Rattle.decay.proofs.series.Tie as tie
-use Rattle.decay.proofs.series.Reads as reads
-use Rattle.decay.proofs.series.Lts as lts
-use Rattle.decay.proofs.next_term.Reads as next-term-reads
 
 -- the loop at j: the term 2j and the sum up to it, with the bounds that the next turn leans on
 record Partial (r t s j : ℕ) : Type 0 where
@@ -38,64 +35,49 @@ Inv-loop r term₀ sum₀ j₀ t s j = Partial r t s j
 abbrev μ-loop : tie.MeasureT-loop
 μ-loop r term₀ sum₀ j₀ t s j = 6 - j
 
--- src/lib.rt:25:5
 loop-holds : tie.Need-loop-holds Inv-loop μ-loop
 unfolding term turns
 loop-holds c = at (c .args .r) (c .pre) (omega arith) refl refl
 
--- src/lib.rt:26:46
 mul-next-term : tie.Need-mul-next-term Inv-loop μ-loop
 mul-next-term c = search needs
 
--- src/lib.rt:26:46
 add-next-term : tie.Need-add-next-term Inv-loop μ-loop
 add-next-term c = search needs
 
--- src/lib.rt:26:38
 mul-next-term-2 : tie.Need-mul-next-term-2 Inv-loop μ-loop
 mul-next-term-2 c = search needs
 
--- src/lib.rt:26:13
 next-term-requires : tie.Need-next-term-requires Inv-loop μ-loop
 next-term-requires c κs = search needs
 
--- src/lib.rt:27:42
 mul-next-term-3 : tie.Need-mul-next-term-3 Inv-loop μ-loop
 mul-next-term-3 c = search needs
 
--- src/lib.rt:27:42
 add-next-term-2 : tie.Need-add-next-term-2 Inv-loop μ-loop
 add-next-term-2 c = search needs
 
--- src/lib.rt:27:34
 mul-next-term-4 : tie.Need-mul-next-term-4 Inv-loop μ-loop
 mul-next-term-4 c = search needs
 
--- src/lib.rt:27:9
 next-term-requires-2 : tie.Need-next-term-requires-2 Inv-loop μ-loop
 next-term-requires-2 c κs = search needs
 
--- src/lib.rt:28:15
 sub-sum : tie.Need-sub-sum Inv-loop μ-loop
 sub-sum c = search needs
 
--- src/lib.rt:28:15
 add-sum : tie.Need-add-sum Inv-loop μ-loop
 add-sum c = search needs
 
--- src/lib.rt:29:9
 add-j : tie.Need-add-j Inv-loop μ-loop
 add-j c = search needs
 
--- src/lib.rt:25:5
 loop-less : tie.Need-loop-less Inv-loop μ-loop
 loop-less c = search needs
 
--- src/lib.rt:25:5
 loop-again : tie.Need-loop-again Inv-loop μ-loop
 loop-again c = step (c .before .before .before .before .pre) (c .before .before .before .loop .inv) (c .before .before .loop-test .taken) (c .before .next-term .ensures .0) (c .next-term2 .ensures .0)
 
--- src/lib.rt:18:1
 returns : tie.Need-returns Inv-loop μ-loop
 returns c =
     let e : c .before .loop .j ≡ 6 = omega arith in

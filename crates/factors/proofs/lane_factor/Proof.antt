@@ -6,39 +6,28 @@ use mathlib.Core.Path.{_≡_}
 use borrow.Author.Needs.{needs}
 use Rattle.factors.proofs.lane_factor.Statement.{statement}
 use Rattle.factors.proofs.lane_factor.Tie as tie
-use Rattle.factors.proofs.lane_factor.Reads as reads
-use Rattle.factors.proofs.lane_factor.Lts as lts
-use Rattle.factors.proofs.six_of.Reads as six-of-reads
 
--- src/lib.rt:28:15
 six-of-requires : tie.Need-six-of-requires
 six-of-requires c κs = search needs
 
--- src/lib.rt:28:11
 mul-result : tie.Need-mul-result
 mul-result c = search needs
 
--- src/lib.rt:28:32
 sub-result : tie.Need-sub-result
 sub-result c = search needs
 
--- src/lib.rt:28:31
 cast-result : tie.Need-cast-result
 cast-result c = search needs
 
--- src/lib.rt:28:11
 add-result : tie.Need-add-result
 add-result c = search needs
 
--- src/lib.rt:28:5
 mul-result-2 : tie.Need-mul-result-2
 mul-result-2 c = search needs
 
--- src/lib.rt:28:5
 array-read-result : tie.Need-array-read-result
 array-read-result c = search needs
 
--- src/lib.rt:24:1
 returns : tie.Need-returns
 returns c =
     let s = c .before in

@@ -3,24 +3,16 @@ use mathlib.Core.Path.{_∙_, ap}
 use borrow.Author.Needs.{needs}
 use Rattle.icu.proofs.icu_amend.Statement.{statement}
 use Rattle.icu.proofs.icu_amend.Tie as tie
-use Rattle.icu.proofs.icu_amend.Reads as reads
-use Rattle.icu.proofs.icu_amend.Lts as lts
-use Rattle.amend.proofs.amend.Reads as amend-reads
-use Rattle.icu.proofs.tell.Reads as tell-reads
 
--- src/lib.rt:44:10
 amend-requires : tie.Need-amend-requires
 amend-requires c κs = search needs
 
--- src/lib.rt:44:5
 tell-requires : tie.Need-tell-requires
 tell-requires c κs = search needs
 
--- src/lib.rt:39:1
 same-length : tie.Need-same-length
 same-length c = search needs
 
--- src/lib.rt:39:1
 returns : tie.Need-returns
 returns c = (c .tell .ensures ∙ ap told (c .before .before .before .amend .ensures .0), c .before .before .before .amend .ensures .1)
 

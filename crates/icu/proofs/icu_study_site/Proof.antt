@@ -3,24 +3,16 @@ use mathlib.Core.Path.{_∙_, ap}
 use borrow.Author.Needs.{needs}
 use Rattle.icu.proofs.icu_study_site.Statement.{statement}
 use Rattle.icu.proofs.icu_study_site.Tie as tie
-use Rattle.icu.proofs.icu_study_site.Reads as reads
-use Rattle.icu.proofs.icu_study_site.Lts as lts
-use Rattle.icu.proofs.tell.Reads as tell-reads
-use Rattle.study.proofs.site_entries.Reads as site-entries-reads
 
--- src/lib.rt:69:10
 site-entries-requires : tie.Need-site-entries-requires
 site-entries-requires c κs = search needs
 
--- src/lib.rt:69:5
 tell-requires : tie.Need-tell-requires
 tell-requires c κs = search needs
 
--- src/lib.rt:64:1
 same-length : tie.Need-same-length
 same-length c = search needs
 
--- src/lib.rt:64:1
 returns : tie.Need-returns
 returns c = (c .tell .ensures ∙ ap told (c .before .before .before .site-entries .ensures .0), c .before .before .before .site-entries .ensures .1)
 

@@ -2,61 +2,43 @@ use Rattle.procedure.specs.Pairs.{protected, permitted, split, pair}
 use borrow.Author.Needs.{needs}
 use Rattle.pairs.proofs.pair_of.Statement.{statement}
 use Rattle.pairs.proofs.pair_of.Tie as tie
-use Rattle.pairs.proofs.pair_of.Reads as reads
-use Rattle.pairs.proofs.pair_of.Lts as lts
-use Rattle.pairs.proofs.permitted_time.Reads as permitted-time-reads
-use Rattle.pairs.proofs.pick.Reads as pick-reads
-use Rattle.pairs.proofs.protected_time.Reads as protected-time-reads
 
--- src/lib.rt:55:47
 array-read-t11 : tie.Need-array-read-t11
 array-read-t11 c = search needs
 
--- src/lib.rt:55:58
 array-read-t15 : tie.Need-array-read-t15
 array-read-t15 c = search needs
 
--- src/lib.rt:55:69
 array-read-t19 : tie.Need-array-read-t19
 array-read-t19 c = search needs
 
--- src/lib.rt:55:80
 array-read-t23 : tie.Need-array-read-t23
 array-read-t23 c = search needs
 
--- src/lib.rt:55:9
 protected-time-requires : tie.Need-protected-time-requires
 protected-time-requires c κs = search needs
 
--- src/lib.rt:56:39
 array-read-t11-2 : tie.Need-array-read-t11-2
 array-read-t11-2 c = search needs
 
--- src/lib.rt:56:50
 array-read-t23-2 : tie.Need-array-read-t23-2
 array-read-t23-2 c = search needs
 
--- src/lib.rt:56:9
 permitted-time-requires : tie.Need-permitted-time-requires
 permitted-time-requires c κs = search needs
 
--- src/lib.rt:57:20
 array-read-t19-2 : tie.Need-array-read-t19-2
 array-read-t19-2 c = search needs
 
--- src/lib.rt:57:28
 array-read-t15-2 : tie.Need-array-read-t15-2
 array-read-t15-2 c = search needs
 
--- src/lib.rt:57:20
 add-t23 : tie.Need-add-t23
 add-t23 c = search needs
 
--- src/lib.rt:58:41
 pick-requires : tie.Need-pick-requires
 pick-requires c κs = search needs
 
--- src/lib.rt:51:1
 returns : tie.Need-returns
 unfolding pair protected permitted split
 returns c = rw (c .pick .ensures, c .before .permitted-time .ensures, c .before .before .protected-time .ensures)

@@ -4,29 +4,21 @@ use borrow.Author.Tests.{le-leb, lt-leb}
 use borrow.Author.Needs.{needs}
 use Rattle.pairs.proofs.pick.Statement.{statement}
 use Rattle.pairs.proofs.pick.Tie as tie
-use Rattle.pairs.proofs.pick.Reads as reads
-use Rattle.pairs.proofs.pick.Lts as lts
-use Rattle.pairs.proofs.pick_unprotected.Reads as pick-unprotected-reads
 
--- src/lib.rt:50:9
 pick-unprotected-requires : tie.Need-pick-unprotected-requires
 pick-unprotected-requires c κs = search needs
 
--- src/lib.rt:50:9
 returns : tie.Need-returns
 unfolding picked
 returns c = rw (lt-leb _ _ (c .before .if1 .taken)) (c .pick-unprotected .ensures)
 
--- src/lib.rt:53:9
 pick-unprotected-requires-2 : tie.Need-pick-unprotected-requires-2
 pick-unprotected-requires-2 c κs = search needs
 
--- src/lib.rt:53:9
 returns-2 : tie.Need-returns-2
 unfolding picked
 returns-2 c = rw (lt-leb _ _ (c .before .if2 .taken), and-false) (c .pick-unprotected2 .ensures)
 
--- src/lib.rt:46:1
 returns-3 : tie.Need-returns-3
 unfolding picked
 returns-3 c = rw (le-leb _ _ (c .before .before .before .if1 .left), le-leb _ _ (c .if2 .left))

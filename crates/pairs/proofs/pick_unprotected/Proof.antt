@@ -1,14 +1,10 @@
 use borrow.Author.Tests.{le-leb, lt-leb}
 use Rattle.pairs.proofs.pick_unprotected.Statement.{statement}
 use Rattle.pairs.proofs.pick_unprotected.Tie as tie
-use Rattle.pairs.proofs.pick_unprotected.Reads as reads
-use Rattle.pairs.proofs.pick_unprotected.Lts as lts
 
--- src/lib.rt:39:1
 returns : tie.Need-returns
 returns c = rw (le-leb _ _ (c .if1 .taken))
 
--- src/lib.rt:39:1
 returns-2 : tie.Need-returns-2
 returns-2 c = rw (lt-leb _ _ (c .if1 .left))
 

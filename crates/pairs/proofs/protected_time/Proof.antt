@@ -1,27 +1,19 @@
 use borrow.Author.Needs.{needs}
 use Rattle.pairs.proofs.protected_time.Statement.{statement}
 use Rattle.pairs.proofs.protected_time.Tie as tie
-use Rattle.pairs.proofs.protected_time.Reads as reads
-use Rattle.pairs.proofs.protected_time.Lts as lts
-use Rattle.clock.proofs.larger.Reads as larger-reads
 
--- src/lib.rt:21:9
 returns : tie.Need-returns
 returns c = search needs
 
--- src/lib.rt:23:22
 add-t7 : tie.Need-add-t7
 add-t7 c = search needs
 
--- src/lib.rt:23:51
 add-t9 : tie.Need-add-t9
 add-t9 c = search needs
 
--- src/lib.rt:23:5
 larger-requires : tie.Need-larger-requires
 larger-requires c κs = search needs
 
--- src/lib.rt:16:1
 returns-2 : tie.Need-returns-2
 returns-2 c = rw (c .before .before .before .before .before .if1 .left) (c .larger .ensures)
 

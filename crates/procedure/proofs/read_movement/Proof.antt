@@ -2,31 +2,22 @@ use Rattle.procedure.specs.Approach.{readMovement}
 use borrow.Author.Needs.{needs}
 use Rattle.procedure.proofs.read_movement.Statement.{statement}
 use Rattle.procedure.proofs.read_movement.Tie as tie
-use Rattle.procedure.proofs.read_movement.Reads as reads
-use Rattle.procedure.proofs.read_movement.Lts as lts
-use Rattle.entries.proofs.movement_entry.Reads as movement-entry-reads
 
--- src/lib.rt:47:22
 movement-entry-requires : tie.Need-movement-entry-requires
 movement-entry-requires c κs = search needs
 
--- src/lib.rt:48:28
 movement-entry-requires-2 : tie.Need-movement-entry-requires-2
 movement-entry-requires-2 c κs = search needs
 
--- src/lib.rt:49:30
 movement-entry-requires-3 : tie.Need-movement-entry-requires-3
 movement-entry-requires-3 c κs = search needs
 
--- src/lib.rt:50:27
 movement-entry-requires-4 : tie.Need-movement-entry-requires-4
 movement-entry-requires-4 c κs = search needs
 
--- src/lib.rt:51:32
 movement-entry-requires-5 : tie.Need-movement-entry-requires-5
 movement-entry-requires-5 c κs = search needs
 
--- src/lib.rt:42:1
 returns : tie.Need-returns
 unfolding readMovement
 returns c = cc

@@ -2,15 +2,11 @@ use Rattle.sheet.specs.Fill.{sheetAnswer}
 use borrow.Author.Tests.{ne-eqb}
 use Rattle.sheet.proofs.check_sheet.Statement.{statement}
 use Rattle.sheet.proofs.check_sheet.Tie as tie
-use Rattle.sheet.proofs.check_sheet.Reads as reads
-use Rattle.sheet.proofs.check_sheet.Lts as lts
 
--- src/lib.rt:98:9
 returns : tie.Need-returns
 unfolding sheetAnswer
 returns c = rw (ne-eqb _ _ (c .if1 .taken))
 
--- src/lib.rt:94:1
 returns-2 : tie.Need-returns-2
 unfolding sheetAnswer
 returns-2 c = rw (c .if1 .left)

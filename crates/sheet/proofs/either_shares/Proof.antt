@@ -1,14 +1,10 @@
 use borrow.Author.Tests.{eq-eqb, ne-eqb}
 use Rattle.sheet.proofs.either_shares.Statement.{statement}
 use Rattle.sheet.proofs.either_shares.Tie as tie
-use Rattle.sheet.proofs.either_shares.Reads as reads
-use Rattle.sheet.proofs.either_shares.Lts as lts
 
--- src/lib.rt:30:9
 returns : tie.Need-returns
 returns c = rw (eq-eqb _ _ (c .if1 .taken))
 
--- src/lib.rt:26:1
 returns-2 : tie.Need-returns-2
 returns-2 c = rw (ne-eqb _ _ (c .before .if1 .left))
 

@@ -7,65 +7,49 @@ use denote.Ref.{now}
 use borrow.Author.Needs.{needs}
 use Rattle.sheet.proofs.fill.Statement.{statement}
 use Rattle.sheet.proofs.fill.Tie as tie
-use Rattle.sheet.proofs.fill.Reads as reads
-use Rattle.sheet.proofs.fill.Lts as lts
-use Rattle.entries.proofs.judge.Reads as judge-reads
-use Rattle.sheet.proofs.check_sheet.Reads as check-sheet-reads
-use Rattle.sheet.proofs.write_fresh.Reads as write-fresh-reads
 
--- src/lib.rt:143:9
 check-sheet-requires : tie.Need-check-sheet-requires
 check-sheet-requires c κs = search needs
 
 enum-told : tie.Need-enum-told
 enum-told c = search needs
 
--- src/lib.rt:145:9
 enum-told-2 : tie.Need-enum-told-2
 enum-told-2 c = search needs
 
--- src/lib.rt:145:9
 same-length : tie.Need-same-length
 same-length c = search needs
 
--- src/lib.rt:145:9
 returns : tie.Need-returns
 unfolding fillAnswer filled
 returns c =
     let answer = handed-on _ (c .before .before .check-sheet .ensures) (c .enum-told2 .given .1) in
     (answer, kept _ _ (sym answer ∙ c .enum-told2 .given .1))
 
--- src/lib.rt:147:9
 judge-requires : tie.Need-judge-requires
 judge-requires c κs = search needs
 
 enum-told-3 : tie.Need-enum-told-3
 enum-told-3 c = search needs
 
--- src/lib.rt:149:9
 enum-told-4 : tie.Need-enum-told-4
 enum-told-4 c = search needs
 
--- src/lib.rt:149:9
 same-length-2 : tie.Need-same-length-2
 same-length-2 c = search needs
 
--- src/lib.rt:149:9
 returns-2 : tie.Need-returns-2
 unfolding fillAnswer filled
 returns-2 c =
     let answer = passed _ (c .before .before .before .before .before .check-sheet .ensures) (c .before .before .before .enum-told .given .1) (c .before .before .judge .ensures) in
     (answer, kept _ _ (sym answer ∙ c .enum-told4 .given .1))
 
--- src/lib.rt:151:5
 write-fresh-requires : tie.Need-write-fresh-requires
 write-fresh-requires c κs = (sym (c .before .before .before .judge .ensures) ∙ c .before .enum-told3 .given .1, sheet-accepted (now (c .before .before .before .before .before .before .before .before .before .before .args .sheet)) (sym (c .before .before .before .before .before .before .check-sheet .ensures) ∙ c .before .before .before .before .enum-told .given .1))
 
--- src/lib.rt:139:1
 same-length-3 : tie.Need-same-length-3
 same-length-3 c = search needs
 
--- src/lib.rt:139:1
 returns-3 : tie.Need-returns-3
 unfolding fillAnswer filled
 returns-3 c =

@@ -7,41 +7,28 @@ use native.Mathlib.Omega.{arith}
 use mathlib.Core.Path.{_≡_, _∙_}
 use Rattle.sheet.proofs.last_at.Statement.{statement}
 use Rattle.sheet.proofs.last_at.Tie as tie
-use Rattle.sheet.proofs.last_at.Reads as reads
-use Rattle.sheet.proofs.last_at.Lts as lts
-use Rattle.sheet.proofs.combined.Reads as combined-reads
-use Rattle.sheet.proofs.right_at.Reads as right-at-reads
-use Rattle.totals.proofs.last_of.Reads as last-of-reads
 
--- src/lib.rt:67:9
 right-at-requires : tie.Need-right-at-requires
 right-at-requires c κs = (accepted-count _ (c .before .pre .0), lit< tt, c .before .pre .1 .first-bounded .line18, small (c .before .pre .2) .through-second, small (c .before .pre .1) .left-second)
 
--- src/lib.rt:68:9
 right-at-requires-2 : tie.Need-right-at-requires-2
 right-at-requires-2 c κs = (accepted-count _ (c .before .before .pre .0), lit< tt, c .before .before .pre .1 .second-bounded .line18, small (c .before .before .pre .2) .through-first, small (c .before .before .pre .1) .left-first)
 
--- src/lib.rt:69:9
 right-at-requires-3 : tie.Need-right-at-requires-3
 right-at-requires-3 c κs = (accepted-count _ (c .before .before .before .pre .0), lit< tt, c .before .before .before .pre .2 .first-bounded .line18, small (c .before .before .before .pre .1) .through-first, small (c .before .before .before .pre .2) .left-second)
 
--- src/lib.rt:70:9
 right-at-requires-4 : tie.Need-right-at-requires-4
 right-at-requires-4 c κs = (accepted-count _ (c .before .before .before .before .pre .0), lit< tt, c .before .before .before .before .pre .2 .second-bounded .line18, small (c .before .before .before .before .pre .1) .through-second, small (c .before .before .before .before .pre .2) .left-first)
 
--- src/lib.rt:71:9
 combined-requires : tie.Need-combined-requires
 combined-requires c κs = (small (c .before .before .before .before .before .pre .1) .few, small (c .before .before .before .before .before .pre .2) .few, small (c .before .before .before .before .before .pre .1) .picked, small (c .before .before .before .before .before .pre .2) .picked)
 
--- src/lib.rt:72:47
 shared-slice-read-last-of : tie.Need-shared-slice-read-last-of
 shared-slice-read-last-of c = omega (arith, accepted-count (now (c .before .before .before .before .before .before .before .args .entries)) (c .before .before .before .before .before .before .before .pre .0))
 
--- src/lib.rt:72:5
 last-of-requires : tie.Need-last-of-requires
 last-of-requires c κs = fair-cycle (now (c .before .before .before .before .before .before .before .args .entries)) (c .before .before .before .before .before .before .before .pre .0)
 
--- src/lib.rt:63:1
 returns : tie.Need-returns
 returns c =
     c .last-of .ensures

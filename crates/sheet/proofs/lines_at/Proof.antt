@@ -6,31 +6,22 @@ use native.Mathlib.Omega.{arith}
 use denote.Ref.{now}
 use Rattle.sheet.proofs.lines_at.Statement.{statement}
 use Rattle.sheet.proofs.lines_at.Tie as tie
-use Rattle.sheet.proofs.lines_at.Reads as reads
-use Rattle.sheet.proofs.lines_at.Lts as lts
-use Rattle.lines.proofs.lines_of.Reads as lines-of-reads
-use Rattle.procedure.proofs.read_approach.Reads as read-approach-reads
 
--- src/lib.rt:30:9
 read-approach-requires : tie.Need-read-approach-requires
 read-approach-requires c κs = (accepted-count _ (c .before .pre .0), c .before .pre .1)
 
--- src/lib.rt:31:9
 read-approach-requires-2 : tie.Need-read-approach-requires-2
 read-approach-requires-2 c κs = (accepted-count _ (c .before .before .pre .0), c .before .before .pre .2)
 
--- src/lib.rt:32:27
 shared-slice-read-lines-of : tie.Need-shared-slice-read-lines-of
 shared-slice-read-lines-of c = omega (arith, accepted-count (now (c .before .before .before .before .args .entries)) (c .before .before .before .before .pre .0))
 
--- src/lib.rt:32:5
 lines-of-requires : tie.Need-lines-of-requires
 lines-of-requires c κs =
     let s = c .before .before .before .before in
     let e = now (s .args .entries) in
     (rw (c .before .before .read-approach .ensures) (fair e (s .pre .0) (s .args .a) (s .pre .1)), rw (c .before .read-approach2 .ensures) (fair e (s .pre .0) (s .args .o) (s .pre .2)), fair-cycle e (s .pre .0))
 
--- src/lib.rt:26:1
 returns : tie.Need-returns
 unfolding linesAt
 returns c = (c .lines-of .ensures .0 ∙ rw (c .before .before .before .read-approach .ensures, c .before .before .read-approach2 .ensures), c .lines-of .ensures .1)

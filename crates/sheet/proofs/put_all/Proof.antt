@@ -7,29 +7,19 @@ use mathlib.Core.Path.{_≡_, _∙_}
 use borrow.Author.Needs.{needs}
 use Rattle.sheet.proofs.put_all.Statement.{statement}
 use Rattle.sheet.proofs.put_all.Tie as tie
-use Rattle.sheet.proofs.put_all.Reads as reads
-use Rattle.sheet.proofs.put_all.Lts as lts
-use Rattle.cells.proofs.put.Reads as put-reads
-use Rattle.sheet.proofs.put_lines.Reads as put-lines-reads
-use Rattle.sheet.proofs.put_rest.Reads as put-rest-reads
 
--- src/lib.rt:109:5
 put-requires : tie.Need-put-requires
 put-requires c κs = search needs
 
--- src/lib.rt:110:5
 put-lines-requires : tie.Need-put-lines-requires
 put-lines-requires c κs = search needs
 
--- src/lib.rt:111:5
 put-rest-requires : tie.Need-put-rest-requires
 put-rest-requires c κs = search needs
 
--- src/lib.rt:105:1
 same-length : tie.Need-same-length
 same-length c = search needs
 
--- src/lib.rt:105:1
 returns : tie.Need-returns
 returns c =
     let s = c .before .before .before .before .before .before .before .before .before .before .before .before .before .before in

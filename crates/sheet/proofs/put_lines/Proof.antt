@@ -7,31 +7,22 @@ use native.Mathlib.Omega.{arith}
 use borrow.Author.Needs.{needs}
 use Rattle.sheet.proofs.put_lines.Statement.{statement}
 use Rattle.sheet.proofs.put_lines.Tie as tie
-use Rattle.sheet.proofs.put_lines.Reads as reads
-use Rattle.sheet.proofs.put_lines.Lts as lts
-use Rattle.cells.proofs.put_lines.Reads as put-lines-reads
 
--- src/lib.rt:79:5
 put-lines-requires : tie.Need-put-lines-requires
 put-lines-requires c κs = search needs
 
--- src/lib.rt:80:5
 put-lines-requires-2 : tie.Need-put-lines-requires-2
 put-lines-requires-2 c κs = search needs
 
--- src/lib.rt:81:5
 put-lines-requires-3 : tie.Need-put-lines-requires-3
 put-lines-requires-3 c κs = search needs
 
--- src/lib.rt:82:5
 put-lines-requires-4 : tie.Need-put-lines-requires-4
 put-lines-requires-4 c κs = search needs
 
--- src/lib.rt:75:1
 same-length : tie.Need-same-length
 same-length c = search needs
 
--- src/lib.rt:75:1
 returns : tie.Need-returns
 returns c =
     let a = c .before .before .before .before .before .before .before .before .before .before .before .before .before .before .before .before .before .args in

@@ -7,28 +7,19 @@ use Prim.Native.Nat.{_≤_}
 use borrow.Author.Needs.{needs}
 use Rattle.sheet.proofs.put_rest.Statement.{statement}
 use Rattle.sheet.proofs.put_rest.Tie as tie
-use Rattle.sheet.proofs.put_rest.Reads as reads
-use Rattle.sheet.proofs.put_rest.Lts as lts
-use Rattle.cells.proofs.put_last.Reads as put-last-reads
-use Rattle.cells.proofs.put_pair.Reads as put-pair-reads
 
--- src/lib.rt:89:5
 put-pair-requires : tie.Need-put-pair-requires
 put-pair-requires c κs = search needs
 
--- src/lib.rt:90:5
 put-pair-requires-2 : tie.Need-put-pair-requires-2
 put-pair-requires-2 c κs = search needs
 
--- src/lib.rt:91:5
 put-last-requires : tie.Need-put-last-requires
 put-last-requires c κs = search needs
 
--- src/lib.rt:85:1
 same-length : tie.Need-same-length
 same-length c = search needs
 
--- src/lib.rt:85:1
 returns : tie.Need-returns
 returns c =
     let a = c .before .before .before .before .before .before .before .before .before .before .before .before .before .args in

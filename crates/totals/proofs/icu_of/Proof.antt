@@ -6,9 +6,6 @@ use Prim.Native.Nat.{_*_, _≤_}
 use borrow.Author.Needs.{needs}
 use Rattle.totals.proofs.icu_of.Statement.{statement}
 use Rattle.totals.proofs.icu_of.Tie as tie
-use Rattle.totals.proofs.icu_of.Reads as reads
-use Rattle.totals.proofs.icu_of.Lts as lts
-use Rattle.units.proofs.divide_up.Reads as divide-up-reads
 
 -- a quotient by a whole number is at most what is divided
 most : (s : tie.Start) → up (s .args .required .0) (s .args .cycle) ≤ s .args .required .0
@@ -16,19 +13,15 @@ most s =
     up-most (s .args .required .0) (s .args .required .0) (s .args .cycle)
     (omega (arith, mul-le-mul-left {m = 1} {n = s .args .cycle} (s .args .required .0) (omega arith), mul-one (s .args .required .0)))
 
--- src/lib.rt:102:22
 cast-divide-up : tie.Need-cast-divide-up
 cast-divide-up c = search needs
 
--- src/lib.rt:102:5
 divide-up-requires : tie.Need-divide-up-requires
 divide-up-requires c κs = search needs
 
--- src/lib.rt:102:5
 cast-result : tie.Need-cast-result
 cast-result c = omega (arith, most (c .before .before), c .divide-up .ensures)
 
--- src/lib.rt:98:1
 returns : tie.Need-returns
 unfolding icuOf
 returns c = c .divide-up .ensures

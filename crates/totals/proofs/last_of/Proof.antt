@@ -2,37 +2,25 @@ use Rattle.procedure.specs.Sheet.{lastOf}
 use borrow.Author.Needs.{needs}
 use Rattle.totals.proofs.last_of.Statement.{statement}
 use Rattle.totals.proofs.last_of.Tie as tie
-use Rattle.totals.proofs.last_of.Reads as reads
-use Rattle.totals.proofs.last_of.Lts as lts
-use Rattle.clock.proofs.larger.Reads as larger-reads
-use Rattle.totals.proofs.icu_of.Reads as icu-of-reads
-use Rattle.totals.proofs.letter_of.Reads as letter-of-reads
 
--- src/lib.rt:110:32
 larger-requires : tie.Need-larger-requires
 larger-requires c κs = search needs
 
--- src/lib.rt:110:55
 larger-requires-2 : tie.Need-larger-requires-2
 larger-requires-2 c κs = search needs
 
--- src/lib.rt:110:9
 larger-requires-3 : tie.Need-larger-requires-3
 larger-requires-3 c κs = search needs
 
--- src/lib.rt:111:9
 larger-requires-4 : tie.Need-larger-requires-4
 larger-requires-4 c κs = search needs
 
--- src/lib.rt:112:9
 icu-of-requires : tie.Need-icu-of-requires
 icu-of-requires c κs = search needs
 
--- src/lib.rt:113:59
 letter-of-requires : tie.Need-letter-of-requires
 letter-of-requires c κs = search needs
 
--- src/lib.rt:106:1
 returns : tie.Need-returns
 unfolding lastOf
 returns c =

@@ -2,45 +2,35 @@ use Rattle.procedure.specs.Pairs.{letterOf}
 use borrow.Author.Tests.{le-leb, lt-leb}
 use Rattle.totals.proofs.letter_of.Statement.{statement}
 use Rattle.totals.proofs.letter_of.Tie as tie
-use Rattle.totals.proofs.letter_of.Reads as reads
-use Rattle.totals.proofs.letter_of.Lts as lts
 
--- src/lib.rt:77:9
 returns : tie.Need-returns
 unfolding letterOf
 returns c = rw (le-leb _ _ (c .if1 .taken))
 
--- src/lib.rt:80:9
 returns-2 : tie.Need-returns-2
 unfolding letterOf
 returns-2 c = rw (lt-leb _ _ (c .before .if1 .left), le-leb _ _ (c .if2 .taken))
 
--- src/lib.rt:83:9
 returns-3 : tie.Need-returns-3
 unfolding letterOf
 returns-3 c = rw (lt-leb _ _ (c .before .before .if1 .left), lt-leb _ _ (c .before .if2 .left), le-leb _ _ (c .if3 .taken))
 
--- src/lib.rt:86:9
 returns-4 : tie.Need-returns-4
 unfolding letterOf
 returns-4 c = rw (lt-leb _ _ (c .before .before .before .if1 .left), lt-leb _ _ (c .before .before .if2 .left), lt-leb _ _ (c .before .if3 .left), le-leb _ _ (c .if4 .taken))
 
--- src/lib.rt:89:9
 returns-5 : tie.Need-returns-5
 unfolding letterOf
 returns-5 c = rw (lt-leb _ _ (c .before .before .before .before .if1 .left), lt-leb _ _ (c .before .before .before .if2 .left), lt-leb _ _ (c .before .before .if3 .left), lt-leb _ _ (c .before .if4 .left), le-leb _ _ (c .if5 .taken))
 
--- src/lib.rt:92:9
 returns-6 : tie.Need-returns-6
 unfolding letterOf
 returns-6 c = rw (lt-leb _ _ (c .before .before .before .before .before .if1 .left), lt-leb _ _ (c .before .before .before .before .if2 .left), lt-leb _ _ (c .before .before .before .if3 .left), lt-leb _ _ (c .before .before .if4 .left), lt-leb _ _ (c .before .if5 .left), le-leb _ _ (c .if6 .taken))
 
--- src/lib.rt:73:1
 returns-7 : tie.Need-returns-7
 unfolding letterOf
 returns-7 c = rw (lt-leb _ _ (c .before .before .before .before .before .before .if1 .left), lt-leb _ _ (c .before .before .before .before .before .if2 .left), lt-leb _ _ (c .before .before .before .before .if3 .left), lt-leb _ _ (c .before .before .before .if4 .left), lt-leb _ _ (c .before .before .if5 .left), lt-leb _ _ (c .before .if6 .left), le-leb _ _ (c .if7 .taken))
 
--- src/lib.rt:73:1
 returns-8 : tie.Need-returns-8
 unfolding letterOf
 returns-8 c = rw (lt-leb _ _ (c .before .before .before .before .before .before .if1 .left), lt-leb _ _ (c .before .before .before .before .before .if2 .left), lt-leb _ _ (c .before .before .before .before .if3 .left), lt-leb _ _ (c .before .before .before .if4 .left), lt-leb _ _ (c .before .before .if5 .left), lt-leb _ _ (c .before .if6 .left), lt-leb _ _ (c .if7 .left))

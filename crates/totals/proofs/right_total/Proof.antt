@@ -3,40 +3,30 @@ use borrow.Author.Tests.{eq-eqb, ne-eqb}
 use borrow.Author.Needs.{needs}
 use Rattle.totals.proofs.right_total.Statement.{statement}
 use Rattle.totals.proofs.right_total.Tie as tie
-use Rattle.totals.proofs.right_total.Reads as reads
-use Rattle.totals.proofs.right_total.Lts as lts
 
--- src/lib.rt:46:8
 array-read-if1 : tie.Need-array-read-if1
 array-read-if1 c = search needs
 
--- src/lib.rt:47:9
 returns : tie.Need-returns
 unfolding rightTotal
 returns c = rw (eq-eqb _ _ (c .if1 .taken))
 
--- src/lib.rt:50:19
 array-read-t12 : tie.Need-array-read-t12
 array-read-t12 c = search needs
 
--- src/lib.rt:50:9
 returns-2 : tie.Need-returns-2
 unfolding rightTotal
 returns-2 c = rw (ne-eqb _ _ (c .before .if1 .left), c .if2 .taken)
 
--- src/lib.rt:52:8
 array-read-t8 : tie.Need-array-read-t8
 array-read-t8 c = search needs
 
--- src/lib.rt:52:8
 add-t15 : tie.Need-add-t15
 add-t15 c = search needs
 
--- src/lib.rt:52:8
 add-t16 : tie.Need-add-t16
 add-t16 c = search needs
 
--- src/lib.rt:42:1
 returns-3 : tie.Need-returns-3
 unfolding rightTotal
 returns-3 c = rw (ne-eqb _ _ (c .before .before .before .if1 .left), c .before .before .if2 .left)

@@ -3,18 +3,13 @@ use mathlib.Core.Path.{_≡_}
 use borrow.Author.Needs.{needs}
 use Rattle.kinds.proofs.Group.at.Statement.{statement}
 use Rattle.kinds.proofs.Group.at.Tie as tie
-use Rattle.kinds.proofs.Group.at.Reads as reads
-use Rattle.kinds.proofs.Group.at.Lts as lts
 
--- src/lib.rt:299:5
 returns : tie.Need-returns
 returns c = search needs
 
--- src/lib.rt:299:5
 returns-2 : tie.Need-returns-2
 returns-2 c = search needs
 
--- src/lib.rt:299:5
 returns-3 : tie.Need-returns-3
 returns-3 c =
     let e : c .before .args .place ≡ 2 = omega arith in

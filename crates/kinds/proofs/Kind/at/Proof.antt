@@ -3,30 +3,21 @@ use borrow.Author.Tests.{lt-ltb, le-ltb}
 use borrow.Author.Needs.{needs}
 use Rattle.kinds.proofs.Kind.at.Statement.{statement}
 use Rattle.kinds.proofs.Kind.at.Tie as tie
-use Rattle.kinds.proofs.Kind.at.Reads as reads
-use Rattle.kinds.proofs.Kind.at.Lts as lts
-use Rattle.kinds.proofs.Kind.of_approach.Reads as of-approach-reads
-use Rattle.kinds.proofs.Kind.of_movement.Reads as of-movement-reads
 
--- src/lib.rt:271:13
 of-movement-requires : tie.Need-of-movement-requires
 of-movement-requires c κs = search needs
 
--- src/lib.rt:271:13
 returns : tie.Need-returns
 unfolding kindAt
 returns c = rw (lt-ltb _ _ (c .before .if1 .taken)) (c .of-movement .ensures)
 
--- src/lib.rt:274:13
 of-approach-requires : tie.Need-of-approach-requires
 of-approach-requires c κs = search needs
 
--- src/lib.rt:274:13
 returns-2 : tie.Need-returns-2
 unfolding kindAt
 returns-2 c = rw (le-ltb _ _ (c .before .before .if1 .left), lt-ltb _ _ (c .before .if2 .taken)) (c .of-approach .ensures)
 
--- src/lib.rt:267:5
 returns-3 : tie.Need-returns-3
 unfolding kindAt
 returns-3 c = rw (le-ltb _ _ (c .before .if1 .left), le-ltb _ _ (c .if2 .left))

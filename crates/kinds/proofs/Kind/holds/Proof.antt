@@ -3,20 +3,14 @@ use borrow.Author.Tests.{lt-leb, le-leb}
 use borrow.Author.Needs.{needs}
 use Rattle.kinds.proofs.Kind.holds.Statement.{statement}
 use Rattle.kinds.proofs.Kind.holds.Tie as tie
-use Rattle.kinds.proofs.Kind.holds.Reads as reads
-use Rattle.kinds.proofs.Kind.holds.Lts as lts
-use Rattle.kinds.proofs.Kind.limits.Reads as limits-reads
 
--- src/lib.rt:283:13
 limits-requires : tie.Need-limits-requires
 limits-requires c κs = search needs
 
--- src/lib.rt:285:13
 returns : tie.Need-returns
 unfolding inRange
 returns c = rw (← c .before .before .limits .ensures .0, lt-leb _ _ (c .if1 .taken))
 
--- src/lib.rt:280:5
 returns-2 : tie.Need-returns-2
 unfolding inRange
 returns-2 c = rw (← c .before .before .before .limits .ensures .0, ← c .before .before .before .limits .ensures .1, le-leb _ _ (c .before .if1 .left))
