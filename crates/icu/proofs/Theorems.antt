@@ -13,10 +13,15 @@ use Rattle.answers.specs.declared.Answer.{Answer}
 use Rattle.answers.specs.declared.Answer.the-variants.{Accepted, Refused}
 use Rattle.answers.proofs.Laws.{kept, renewed}
 use Rattle.entries.specs.Judging.{judged}
+use Rattle.procedure.specs.declared.Approach.{Approach}
+use Rattle.procedure.specs.Lines.{BLANK}
+use Rattle.procedure.specs.Ranges.{Fair, FairCycle}
 use Rattle.procedure.specs.Sheet.{sheet}
 use Rattle.procedure.specs.Junctions.{workedOut, given}
 use Rattle.procedure.proofs.Compared.{compared}
+use Rattle.lines.proofs.NoBlank.{Refused as BlankMeans, blank-refuses}
 use Rattle.sheet.specs.Fill.{fillAnswer, filled}
+use Rattle.sheet.proofs.Fits.{sheet-fits}
 use Rattle.amend.specs.Amend.{amendAnswer, amended, Change, amendedBy, entriesBy, reachedBy}
 use Rattle.amend.proofs.Laws.{amended-is-fresh, refused-stays, run-is-fresh, run-keeps}
 use Rattle.words.specs.Words.{AllBelow, over}
@@ -42,6 +47,14 @@ refused-call new old refused = sym (kept new old refused)
 pub filled-sheet : (e d : List ℕ) → fillAnswer e d ≡ Accepted → filled e d ≡ sheet e
 unfolding filled
 filled-sheet e d accepted = sym (renewed (sheet e) d accepted)
+
+-- On acceptable entries no time reaches BLANK: lines 23 to 26 are BLANK only where the options are not allowed ..
+pub blank-only-where-refused : (s o : Approach) (CL : ℕ) → Fair s → Fair o → FairCycle CL → BlankMeans s o CL
+blank-only-where-refused = blank-refuses
+
+-- .. and every cell of the sheet fits 32 bits.
+pub cells-fit : (e : List ℕ) → judged e ≡ Accepted → (k : ℕ) → getD (sheet e) k 0 ≤ BLANK
+cells-fit e accepted k = sheet-fits e accepted .at k
 
 -- K1 to K10: every number that the rules give for them comes out of the definitions.
 pub junctions : workedOut ≡ given

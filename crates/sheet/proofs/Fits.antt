@@ -1,0 +1,166 @@
+-- Every cell of the sheet of acceptable entries fits 32 bits: none is above BLANK.
+use mathlib.Core.Path.{_≡_, refl}
+use mathlib.Core.Bool.{Bool, _||_}
+use mathlib.Core.List.{List, [], _∷_, _++_}
+use Prim.Native.Nat.{ℕ, zero, suc, _≤_, _<_, max}
+use native.Mathlib.Nat.{le-trans}
+use native.Mathlib.Decide.{decLt}
+use native.Mathlib.Omega.{arith}
+use lib.Dec.{eqb, leb, lit≤, lit<}
+use lib.ListN.{getD, List·getD-eq-default}
+use borrow.Author.Tests.{leb-true}
+use Rattle.units.specs.Rounding.{up-most}
+use Rattle.units.proofs.Table.{at-each}
+use Rattle.kinds.specs.Kinds.{mostOf, kindAt}
+use Rattle.answers.specs.declared.Answer.the-variants.{Accepted}
+use Rattle.entries.specs.Judging.{judged}
+use Rattle.entries.proofs.Laws.{accepted-count, accepted-range}
+use Rattle.procedure.specs.Approach.{readApproach}
+use Rattle.procedure.specs.Ranges.{FairCycle}
+use Rattle.procedure.specs.Lines.{BLANK}
+use Rattle.procedure.specs.Pairs.{line, protected, permitted, split, pair, rightTotal, icuOf, letterOf}
+use Rattle.procedure.specs.Sheet.{EB, WB, NB, SB, cycle, linesAt, pairAt, rightAt, lastOf, lastAt, sheet}
+use Rattle.procedure.proofs.Fair.{fair, fair-cycle}
+use Rattle.blocks.specs.Cells.{Bounded}
+use Rattle.pairs.proofs.Laws.{pick-few}
+use Rattle.lines.proofs.NoBlank.{Under, none, _&_, under-fits, chosen-most, timely-fits, bounded-lines, lines-fit}
+use Rattle.sheet.proofs.Laws.{Small, small}
+
+pub record Fits (cells : List ℕ) : Type 0 where
+  pub at : (k : ℕ) → getD cells k 0 ≤ BLANK
+
+infixl 30 _and_
+_and_ : {x y : List ℕ} → Fits x → Fits y → Fits (x ++ y)
+_and_ {x} {y} h k = record { at = go x (h .at) }
+  where
+    go : (z : List ℕ) → ((i : ℕ) → getD z i 0 ≤ BLANK) → (i : ℕ) → getD (z ++ y) i 0 ≤ BLANK
+    go [] f i = k .at i
+    go (c ∷ z) f zero = f 0
+    go (c ∷ z) f (suc i) = go z (λ j. f (suc j)) i
+
+limit-fits : (i : ℕ) → i < 81 → mostOf (kindAt i) ≤ BLANK
+unfolding kindAt
+limit-fits i h = leb-true _ _ (at-each (λ j. leb (mostOf (kindAt j)) BLANK) 81 refl i h)
+
+-- ---- the pairs
+
+abbrev pub mostPair : List ℕ
+mostPair = BLANK ∷ BLANK ∷ 20_888_000 ∷ 2 ∷ []
+
+module _ (shared : Bool) (x y : List ℕ) (bx : Bounded x) (by : Bounded y) where
+  protected-most : protected shared x y ≤ BLANK
+  unfolding protected
+  protected-most =
+      chosen-most shared (λ blank. lit≤ tt) (λ time. omega (arith, bx .line16, bx .line17, by .line16, by .line17))
+
+  permitted-most : permitted x y ≤ BLANK
+  unfolding permitted
+  permitted-most =
+      let first : line 26 x ≤ BLANK = timely-fits (lit≤ tt) (bx .line26) in
+      let second : line 26 y ≤ BLANK = timely-fits (lit≤ tt) (by .line26) in
+      chosen-most (eqb (line 26 x) BLANK || eqb (line 26 y) BLANK) (λ blank. lit≤ tt) (λ time. omega (arith, first, second))
+
+  pair-most : Under mostPair (pair shared x y)
+  unfolding pair split
+  pair-most =
+      let both : split x y ≤ 20_888_000 = omega (arith, bx .line28, by .line28) in
+      protected-most & permitted-most & both & pick-few shared x y bx by & none
+
+-- ---- the last eight
+
+right-most : (free : Bool) (x : List ℕ) (cross left : ℕ) → line 18 x ≤ 10_444_000 → cross ≤ 20_888_000 → left ≤ 10_444_000 → rightTotal free x cross left ≤ 41_776_000
+unfolding rightTotal
+right-most free x cross left h k l =
+    chosen-most (eqb (line 3 x) 0) (λ nothing. lit≤ tt) (λ some. chosen-most free (λ alone. omega arith) (λ all. omega arith))
+
+icu-most : (required CL : ℕ) → required ≤ 41_776_000 → FairCycle CL → icuOf required CL ≤ 1_392_534
+unfolding icuOf
+icu-most required CL h cycle = up-most 1_392_534 required CL (omega (arith, cycle .least))
+
+pub letter-most : (icu : ℕ) → letterOf icu ≤ 7
+unfolding letterOf
+letter-most icu =
+    chosen-most (leb icu 550) (λ A. lit≤ tt) (λ _.
+    chosen-most (leb icu 640) (λ B. lit≤ tt) (λ _.
+    chosen-most (leb icu 730) (λ C. lit≤ tt) (λ _.
+    chosen-most (leb icu 820) (λ D. lit≤ tt) (λ _.
+    chosen-most (leb icu 910) (λ E. lit≤ tt) (λ _.
+    chosen-most (leb icu 1000) (λ F. lit≤ tt) (λ _. chosen-most (leb icu 1090) (λ G. lit≤ tt) (λ H. lit≤ tt)))))))
+
+abbrev pub mostLast : List ℕ
+mostLast = 41_776_000 ∷ 41_776_000 ∷ 41_776_000 ∷ 41_776_000 ∷ 41_776_000 ∷ 41_776_000 ∷ 1_392_534 ∷ 7 ∷ []
+
+last-most :
+    (eb wb nb sb combined CL : ℕ)
+    → eb ≤ 41_776_000 → wb ≤ 41_776_000 → nb ≤ 41_776_000 → sb ≤ 41_776_000 → combined ≤ 41_776_000 → FairCycle CL
+    → Under mostLast (lastOf eb wb nb sb combined CL)
+unfolding lastOf
+last-most eb wb nb sb combined CL e w n s c cycle =
+    let required : max combined (max (max eb wb) (max nb sb)) ≤ 41_776_000 = omega arith in
+    e & w & n & s & c & required & icu-most _ CL required cycle & letter-most _ & none
+
+-- ---- of acceptable entries
+
+-- what the sheet takes from a street
+record StreetFits (e : List ℕ) (a o : ℕ) : Type 0 where
+  first : Fits (linesAt e a o)
+  second : Fits (linesAt e o a)
+  pair : Fits (pairAt e a o)
+  first-bounded : Bounded (linesAt e a o)
+  second-bounded : Bounded (linesAt e o a)
+  times : Small (linesAt e a o) (linesAt e o a) (pairAt e a o)
+
+module _ (e : List ℕ) (ok : judged e ≡ Accepted) where
+  entries-fit : Fits e
+  entries-fit = record { at = λ i. go i (decLt i 81) }
+    where
+      go : (i : ℕ) → Dec (i < 81) → getD e i 0 ≤ BLANK
+      go i (yes h) = le-trans (accepted-range e ok i h .most) (limit-fits i h)
+      go i (no h) = rw (List·getD-eq-default e 0 {n = i} (omega (arith, accepted-count e ok))) (lit≤ tt)
+
+  module _ (a o : ℕ) (h : a < 4) (k : o < 4) where
+    lines-at-fit : Fits (linesAt e a o)
+    unfolding linesAt
+    lines-at-fit = record { at = lines-fit (readApproach e a) (readApproach e o) (cycle e) (fair e ok a h) (fair e ok o k) (fair-cycle e ok) }
+
+    bounded-at : Bounded (linesAt e a o)
+    unfolding linesAt
+    bounded-at = bounded-lines (readApproach e a) (readApproach e o) (cycle e) (fair e ok a h) (fair e ok o k) (fair-cycle e ok)
+
+  street-fits : (a o : ℕ) → a < 4 → o < 4 → StreetFits e a o
+  unfolding pairAt
+  street-fits a o h k =
+      let first = bounded-at a o h k in
+      let second = bounded-at o a k h in
+      record {
+        first = lines-at-fit a o h k;
+        second = lines-at-fit o a k h;
+        pair = record { at = under-fits mostPair refl (pair-most _ (linesAt e a o) (linesAt e o a) first second) };
+        first-bounded = first;
+        second-bounded = second;
+        times = small {e = e} {a = a} {o = o} (record { first = refl; second = refl; pair = refl; first-bounded = first; second-bounded = second });
+      }
+
+  along : StreetFits e EB WB
+  along = street-fits EB WB (lit< tt) (lit< tt)
+
+  across : StreetFits e NB SB
+  across = street-fits NB SB (lit< tt) (lit< tt)
+
+  last-fits : Fits (lastAt e)
+  unfolding lastAt rightAt
+  last-fits =
+      let x = along .times in
+      let y = across .times in
+      let eb = right-most _ _ _ _ (along .first-bounded .line18) (y .through-second) (x .left-second) in
+      let wb = right-most _ _ _ _ (along .second-bounded .line18) (y .through-first) (x .left-first) in
+      let nb = right-most _ _ _ _ (across .first-bounded .line18) (x .through-first) (y .left-second) in
+      let sb = right-most _ _ _ _ (across .second-bounded .line18) (x .through-second) (y .left-first) in
+      record { at = under-fits mostLast refl (last-most _ _ _ _ _ (cycle e) eb wb nb sb (omega (arith, x .picked, y .picked)) (fair-cycle e ok)) }
+
+  pub sheet-fits : Fits (sheet e)
+  unfolding sheet
+  sheet-fits =
+      entries-fit
+      and (along .first and along .second and across .first and across .second)
+      and (along .pair and across .pair and last-fits)
