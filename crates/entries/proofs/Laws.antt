@@ -1,14 +1,14 @@
 -- What acceptance gives: the laws that every caller of the judging leans on, over the index, the approach and the movement.
 use mathlib.Core.Path.{_≡_, refl, sym, _∙_}
-use mathlib.Core.Bool.{Bool, true, false, not, cond, _&&_, _||_}
+use mathlib.Core.Bool.{Bool, true, false, not, cond, _&&_, _||_, and-assoc, and-true, and-false}
 use mathlib.Core.List.{List}
-use Prim.Native.Nat.{ℕ, _+_, _-_, _*_, _/_, _%_, _≤_, _<_}
-use native.Mathlib.Nat.{zero-add}
+use Prim.Native.Nat.{ℕ, zero, suc, _+_, _-_, _*_, _/_, _%_, _≤_, _<_}
+use native.Mathlib.Nat.{zero-add, add-zero, add-suc, suc-add}
 use native.Mathlib.Omega.{arith}
 use lib.ListN.{length, getD}
 use lib.Dec.{leb, ltb, eqb, lit≤}
-use borrow.Author.Tests.{eqb-true, eqb-false, leb-true, ltb-false, lt-ltb, le-ltb, eq-eqb, not-false}
-use Rattle.answers.specs.Answers.{_then_}
+use borrow.Author.Tests.{eqb-true, eqb-false, leb-true, ltb-false, lt-ltb, le-ltb, eq-eqb, not-true, not-false}
+use Rattle.answers.specs.Answers.{_then_, lowest}
 use Rattle.answers.specs.declared.Refusal.{Refusal}
 use Rattle.answers.specs.declared.Refusal.the-variants.{Size, Entry, Range, Shared, NoLane, File}
 use Rattle.answers.specs.declared.Answer.the-variants.{Accepted}
@@ -16,7 +16,7 @@ use Rattle.answers.proofs.Laws.{both-accepted, not-refused, none-bad}
 use Rattle.kinds.specs.declared.Kind.{Kind}
 use Rattle.kinds.specs.Kinds.{Within, limitsOf, inRange, kindAt, movementKind, approachKind, groupOf}
 use Rattle.entries.specs.Layout.{left, through, lanes, volume, shared, movementEntry, approachEntry}
-use Rattle.entries.specs.Judging.{sizeAnswer, eachAnswer, countOf, faulty, outside, badlyShared, unserved, otherLanes, judged}
+use Rattle.entries.specs.Judging.{sizeAnswer, eachAnswer, countOf, faulty, outside, allInRange, Alike, badlyShared, unserved, otherLanes, judged}
 
 -- no reason is asked of more than the entries
 pub count-most : (why : Refusal) → countOf why ≤ 81
@@ -52,6 +52,54 @@ unfolding kindAt
 kind-of-approach a j h k =
     let e : (60 + 5 * a + j - 60) % 5 ≡ j = omega arith in
     rw (le-ltb (60 + 5 * a + j) 60 (omega arith), lt-ltb (60 + 5 * a + j) 80 (omega arith), e)
+
+-- so the fives of entries repeat their kinds
+pub movements-alike : (m : ℕ) → m < 12 → Alike (5 * m) 0
+movements-alike m h j k = kind-of-movement m j h k ∙ sym (kind-of-movement 0 j (lit≤ tt) k)
+
+pub approaches-alike : (a : ℕ) → a < 4 → Alike (60 + 5 * a) 60
+approaches-alike a h j k = kind-of-approach a j h k ∙ sym (kind-of-approach 0 j (lit≤ tt) k)
+
+both : (a b : Bool) → (a && b) ≡ true → (a ≡ true) × (b ≡ true)
+both true b e = (refl, e)
+both false b e = absurd (let z : _≡_ {A = ℕ} 0 1 = cc in omega arith)
+
+-- the acceptance of the n entries from i on, by parts: b entries at k were asked, and r was told of them
+module _ (e : List ℕ) where
+  in-parts : (i a b : ℕ) → allInRange e i (a + b) ≡ (allInRange e i a && allInRange e (i + a) b)
+  unfolding allInRange
+  in-parts i zero b = rw (zero-add b, add-zero i)
+  in-parts i (suc a) b =
+      rw (suc-add a b, in-parts (suc i) a b, add-suc i a, suc-add i a)
+      (sym (and-assoc (inRange (kindAt i) (getD e i 0)) (allInRange e (suc i) a) (allInRange e (suc (i + a)) b)))
+
+  -- one entry was asked, by a kind that is its own
+  pub one-in-range : (i j : ℕ) {k : Kind} {r : Bool} → kindAt i ≡ kindAt j → k ≡ kindAt j → r ≡ inRange k (getD e i 0) → r ≡ allInRange e i 1
+  unfolding allInRange
+  one-in-range i j same its told = told ∙ rw (its, same, and-true (inRange (kindAt j) (getD e i 0)))
+
+  -- where those before them are in range, the last of the n decide
+  pub range-ends : (i a b k n : ℕ) {r : Bool} → allInRange e i a ≡ true → k ≡ i + a → n ≡ a + b → r ≡ allInRange e k b → r ≡ allInRange e i n
+  range-ends i a b k n before here whole told = told ∙ rw (here, whole, in-parts i a b, before)
+
+  pub range-goes-on : (i a b k n : ℕ) {r : Bool} → allInRange e i a ≡ true → k ≡ i + a → n ≡ a + b → r ≡ allInRange e k b → not r ≡ false → allInRange e i n ≡ true
+  range-goes-on i a b k n before here whole told good = sym (range-ends i a b k n before here whole told) ∙ not-false _ good
+
+  -- any part that is not in range decides
+  pub range-stops : (i b k n : ℕ) {r : Bool} → i ≤ k → k + b ≤ i + n → r ≡ allInRange e k b → not r ≡ true → false ≡ allInRange e i n
+  range-stops i b k n from to told bad =
+      let after = i + n - (k + b) in
+      let here : i + (k - i) ≡ k = omega arith in
+      let whole : n ≡ k - i + (b + after) = omega arith in
+      sym (rw (whole, in-parts i (k - i) (b + after), here, in-parts k b after, sym told ∙ not-true _ bad, and-false (allInRange e i (k - i))))
+
+  -- entries that are all in range leave nothing to refuse
+  pub all-accepted : (i n : ℕ) → allInRange e i n ≡ true → lowest (faulty e Range) Range i n ≡ Accepted
+  unfolding allInRange outside lowest
+  all-accepted i zero h = refl
+  all-accepted i (suc n) h =
+      let two : (inRange (kindAt i) (getD e i 0) ≡ true) × (allInRange e (suc i) n ≡ true) = both _ _ h in
+      rw (two .0) (all-accepted (suc i) n (two .1))
 
 -- of two tests that do not both hold, the second fails where the first holds
 not-both : (a b : Bool) → (a && b) ≡ false → a ≡ true → b ≡ false

@@ -1,7 +1,8 @@
 -- "What a call may say no to", of a list of entries: a definition for each row of the table that speaks of entries.
-use mathlib.Core.Bool.{Bool, false, not, _&&_, _||_}
+use mathlib.Core.Path.{_≡_}
+use mathlib.Core.Bool.{Bool, true, false, not, _&&_, _||_}
 use mathlib.Core.List.{List}
-use Prim.Native.Nat.{ℕ, _/_}
+use Prim.Native.Nat.{ℕ, zero, suc, _+_, _/_, _<_}
 use lib.Dec.{ltb, eqb}
 use lib.ListN.{length, getD}
 use Rattle.answers.specs.declared.Answer.{Answer}
@@ -20,6 +21,15 @@ sizeAnswer e = refuse-if (not (eqb (length e) entryCount)) Size 0
 -- 3 RANGE: "an entry outside its range"; place "lowest such entry"
 unfoldable pub outside : List ℕ → ℕ → Bool
 outside e i = not (inRange (kindAt i) (getD e i 0))
+
+-- each of n entries from i on is in range
+unfoldable pub allInRange : List ℕ → ℕ → ℕ → Bool
+allInRange e i zero = true
+allInRange e i (suc n) = inRange (kindAt i) (getD e i 0) && allInRange e (suc i) n
+
+-- the five entries from i on are of the kinds of those from k on
+abbrev pub Alike : ℕ → ℕ → Type 0
+Alike i k = (j : ℕ) → j < 5 → kindAt (i + j) ≡ kindAt (k + j)
 
 -- 4 SHARED: "shared lane with left lanes above 0 or through lanes 0"; place "lowest approach"
 unfoldable pub badlyShared : List ℕ → ℕ → Bool

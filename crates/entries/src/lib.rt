@@ -1,9 +1,10 @@
 // The entries judged: the first refusal that applies, or acceptance.
 ghost use mathlib.Core.Path.{_≡_};
-ghost use Prim.Native.Nat.{_<_, _≤_};
+ghost use Prim.Native.Nat.{_+_, _<_, _≤_};
 ghost use lib.ListN.{length};
+ghost use Rattle.answers.specs.declared.Refusal.the-variants.{Range};
 ghost use Rattle.entries.specs.Layout.{entryCount, movementEntry, approachEntry};
-ghost use Rattle.entries.specs.Judging.{sizeAnswer, outside, badlyShared, otherLanes, unserved, countOf, faulty, eachAnswer, judged};
+ghost use Rattle.entries.specs.Judging.{sizeAnswer, outside, allInRange, Alike, badlyShared, otherLanes, unserved, countOf, faulty, eachAnswer, judged};
 use answers::Answer;
 use answers::Refusal;
 use kinds::Group;
@@ -41,6 +42,45 @@ fn is_outside(entries: &[u32], entry: usize) -> bool
     ensures { λ r. ⌜ r ≡ outside (now (entries .entry)) entry ⌝ }
 {
     !Kind::at(entry).holds(entries[entry])
+}
+
+// Whether the five entries from `first` on are in range.
+//
+// Their kinds are read from `like` on, a constant at each call, so that the limits are constants there too.
+fn five_in_range(entries: &[u32], first: usize, like: usize) -> bool
+    requires { ⌜ (length (now entries) ≡ entryCount) × (first + 5 ≤ entryCount) × (like + 5 ≤ entryCount) × Alike first like ⌝ }
+    ensures { λ r. ⌜ r ≡ allInRange (now (entries .entry)) first 5 ⌝ }
+{
+    let mut place = 0;
+    while place < 5 {
+        if !Kind::at(like + place).holds(entries[first + place]) {
+            return false;
+        }
+        place += 1;
+    }
+    true
+}
+
+// Whether every entry is in range, which is told sooner than the place of one that is not.
+fn all_in_range(entries: &[u32]) -> bool
+    requires { ⌜ length (now entries) ≡ entryCount ⌝ }
+    ensures { λ r. ⌜ r ≡ allInRange (now (entries .entry)) 0 entryCount ⌝ }
+{
+    let mut movement = 0;
+    while movement < 12 {
+        if !five_in_range(entries, 5 * movement, 0) {
+            return false;
+        }
+        movement += 1;
+    }
+    let mut approach = 0;
+    while approach < 4 {
+        if !five_in_range(entries, 60 + 5 * approach, 60) {
+            return false;
+        }
+        approach += 1;
+    }
+    Kind::Cycle.holds(entries[80])
 }
 
 fn is_badly_shared(entries: &[u32], approach: usize) -> bool
@@ -125,6 +165,17 @@ fn check_each(entries: &[u32], why: Refusal) -> Answer
     Answer::Accepted
 }
 
+// The lowest entry outside its range, looked for only where there is one.
+fn check_ranges(entries: &[u32]) -> Answer
+    requires { ⌜ length (now entries) ≡ entryCount ⌝ }
+    ensures { λ r. ⌜ r ≡ eachAnswer (now (entries .entry)) Range ⌝ }
+{
+    if all_in_range(entries) {
+        return Answer::Accepted;
+    }
+    check_each(entries, Refusal::Range)
+}
+
 // The first refusal that applies to the entries, or acceptance.
 pub fn judge(entries: &[u32]) -> Answer
     ensures { λ r. ⌜ r ≡ judged (now (entries .entry)) ⌝ }
@@ -133,7 +184,7 @@ pub fn judge(entries: &[u32]) -> Answer
     let Answer::Accepted = size else {
         return size;
     };
-    let ranges = check_each(entries, Refusal::Range);
+    let ranges = check_ranges(entries);
     let Answer::Accepted = ranges else {
         return ranges;
     };

@@ -1,8 +1,8 @@
 -- What bounds the volumes and the flows: first over plain numbers, then of an acceptable approach.
-use mathlib.Core.Path.{_≡_, refl}
+use mathlib.Core.Path.{_≡_, refl, sym, _∙_}
 use mathlib.Core.Bool.{Bool, true, false, cond}
 use Prim.Native.Nat.{ℕ, zero, suc, _+_, _-_, _*_, _/_, _≤_, _<_}
-use native.Mathlib.Nat.{le-trans, mul-le-mul, mul-le-mul-right, mul-pos, mul-comm, mul-mul-mul-comm, div-le-of-le-mul, le-div-iff-mul-le}
+use native.Mathlib.Nat.{le-trans, mul-le-mul, mul-le-mul-right, mul-pos, mul-comm, mul-assoc, mul-left-comm, mul-mul-mul-comm, sub-zero, div-le-of-le-mul, le-div-iff-mul-le, div-eq-of-eq-mul-left, mul-div-mul-right}
 use native.Mathlib.Decide.{decLt}
 use native.Mathlib.Omega.{arith}
 use lib.Dec.{eqb, lit≤}
@@ -78,6 +78,32 @@ turning-between v a b p q = unless-zero 8_075 _ v (lit≤ tt) (λ z. turning-quo
 pub straight-between : (v a : ℕ) → a ≤ v → Between 8_500 10_000 (turningST v a)
 unfolding turningST
 straight-between v a p = unless-zero 8_500 _ v (lit≤ tt) (λ z. straight-quotient v a z p)
+
+-- where nothing turns the whole is left
+pub straight-none : (v : ℕ) → turningST v 0 ≡ 10_000
+unfolding turningST
+straight-none v = go (eqb v 0) refl
+  where
+    go : (t : Bool) → eqb v 0 ≡ t → cond t 10_000 (100 * (100 * v - 15 * 0) / v) ≡ 10_000
+    go true e = refl
+    go false e = div-eq-of-eq-mul-left (omega (arith, eqb-false v 0 e)) (omega arith)
+
+-- without folded lefts lines 4 and 8 have the same factor
+pub turning-alike : (v a : ℕ) → turningT v a 0 ≡ turningST v a
+unfolding turningT turningST
+turning-alike v a = go (eqb v 0) refl
+  where
+    whole : (x : ℕ) → x * (100 * v - 5 * 0) ≡ 100 * x * v
+    whole x = rw (sub-zero (100 * v)) (mul-left-comm x 100 v ∙ sym (mul-assoc 100 x v))
+
+    go : (t : Bool) → eqb v 0 ≡ t → cond t 10_000 ((100 * v - 15 * a) * (100 * v - 5 * 0) / (v * v)) ≡ cond t 10_000 (100 * (100 * v - 15 * a) / v)
+    go true e = refl
+    go false e = rw (whole (100 * v - 15 * a)) (mul-div-mul-right (100 * (100 * v - 15 * a)) v (omega (arith, eqb-false v 0 e)))
+
+-- and so lines 6 and 8 are the same
+pub straight-alike : (s : Approach) → b s ≡ 0 → sST s ≡ flow s Through
+unfolding sST flow fT vST
+straight-alike s none = rw (none, sub-zero, turning-alike)
 
 -- the products of a flow, as far as they grow
 pub record FlowRoom (i n k f : ℕ) : Type 0 where

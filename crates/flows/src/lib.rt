@@ -3,9 +3,9 @@ ghost use mathlib.Core.Path.{_≡_};
 ghost use mathlib.Core.Bool.{cond};
 ghost use Prim.Native.Nat.{_*_, _+_, _≤_};
 ghost use Rattle.kinds.specs.declared.Kind.the-variants.{Lanes, Volume, IdealFlow};
-ghost use Rattle.kinds.specs.declared.Group.the-variants.{Left};
+ghost use Rattle.kinds.specs.declared.Group.the-variants.{Left, Through};
 ghost use Rattle.kinds.specs.Kinds.{mostOf};
-ghost use Rattle.procedure.specs.Lines.{turningT, turningST, flowOf, flow, sSL};
+ghost use Rattle.procedure.specs.Lines.{turningT, turningST, flowOf, flow, sST, sSL};
 ghost use Rattle.procedure.specs.Ranges.{Fair};
 ghost use Rattle.blocks.specs.Blocks.{VolumesOf, FlowsOf};
 use blocks::Flows;
@@ -49,30 +49,29 @@ pub fn volumes_of(s: Approach) -> Volumes
     }
 }
 
-// Line 4: what the turns among the through leave of its flow.
+// What the right turns alone leave of a flow, for line 8.
+fn straight_turning_of(straight: Vph, right: Vph) -> u32
+    requires { ⌜ (straight .0 ≤ 3 * mostOf Volume) × (right .0 ≤ straight .0) ⌝ }
+    ensures { λ r. ⌜ (r ≡ turningST (straight .0) (right .0)) × (r ≤ 10_000) ⌝ }
+{
+    if right.0 == 0 {
+        return WHOLE;
+    }
+    100 * (100 * straight.0 - 15 * right.0) / straight.0
+}
+
+// Line 4: what the turns among the through leave of its flow; without left turns as line 8 has it.
 fn turning_of(through: Vph, right: Vph, left: Vph) -> u32
     requires { ⌜ (through .0 ≤ 3 * mostOf Volume) × (right .0 ≤ through .0) × (left .0 ≤ through .0) ⌝ }
     ensures { λ r. ⌜ (r ≡ turningT (through .0) (right .0) (left .0)) × (r ≤ 10_000) ⌝ }
 {
-    if through.0 == 0 {
-        return WHOLE;
+    if left.0 == 0 {
+        return straight_turning_of(through, right);
     }
     let v = through.0 as u64;
     let rights = 100 * v - 15 * right.0 as u64;
     let lefts = 100 * v - 5 * left.0 as u64;
     (rights * lefts / (v * v)) as u32
-}
-
-// The same of the right turns alone, for line 8.
-fn straight_turning_of(straight: Vph, right: Vph) -> u32
-    requires { ⌜ (straight .0 ≤ 3 * mostOf Volume) × (right .0 ≤ straight .0) ⌝ }
-    ensures { λ r. ⌜ (r ≡ turningST (straight .0) (right .0)) × (r ≤ 10_000) ⌝ }
-{
-    if straight.0 == 0 {
-        return WHOLE;
-    }
-    let v = straight.0 as u64;
-    (100 * (100 * v - 15 * right.0 as u64) / v) as u32
 }
 
 // The flow of a group's lanes, down; without a lane there is none.
@@ -99,20 +98,32 @@ fn lefts_of(s: Approach, left: Vph) -> Vph
     left
 }
 
+// Line 8: line 6, but without the folded left turns.
+fn straight_of(s: Approach, v: Volumes, through: Vph) -> Vph
+    requires { ⌜ Fair s × VolumesOf s v × (through .0 ≡ flow s Through) ⌝ }
+    ensures { λ r. ⌜ r .0 ≡ sST s ⌝ }
+{
+    if v.foldedleft.0 == 0 {
+        return through;
+    }
+    let rights = straight_turning_of(v.straight, v.foldedright);
+    flow_of(Group::Through, s.through.ideal.0, s.through.lanes.0, rights)
+}
+
 // Lines 4–9.
 pub fn flows_of(s: Approach, v: Volumes) -> Flows
     requires { ⌜ Fair s × VolumesOf s v ⌝ }
     ensures { λ r. ⌜ FlowsOf s r ⌝ }
 {
     let turns = turning_of(v.through, v.foldedright, v.foldedleft);
-    let rights = straight_turning_of(v.straight, v.foldedright);
     let left = flow_of(Group::Left, s.left.ideal.0, s.left.lanes.0, LEFT);
+    let through = flow_of(Group::Through, s.through.ideal.0, s.through.lanes.0, turns);
     Flows {
         turning: turns,
         left,
-        through: flow_of(Group::Through, s.through.ideal.0, s.through.lanes.0, turns),
+        through,
         right: flow_of(Group::Right, s.right.ideal.0, s.right.lanes.0, RIGHT),
-        straight: flow_of(Group::Through, s.through.ideal.0, s.through.lanes.0, rights),
+        straight: straight_of(s, v, through),
         lefts: lefts_of(s, left),
     }
 }

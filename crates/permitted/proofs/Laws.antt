@@ -2,11 +2,11 @@
 use mathlib.Core.Path.{_≡_, refl, sym, _∙_}
 use mathlib.Core.Bool.{Bool, true, false, cond}
 use Prim.Native.Nat.{ℕ, _+_, _-_, _*_, _/_, _≤_, _<_}
-use native.Mathlib.Nat.{mul-le-mul, mul-le-mul-left, mul-left-comm, mul-assoc, mul-comm, mul-mul-mul-comm, sub-zero, le-refl, le-trans, le-of-eq, le-div-iff-mul-le, div-le-of-le-mul, div-mul-le-self, mul-div-mul-right, le-of-mul-le-mul-left}
+use native.Mathlib.Nat.{mul-le-mul, mul-le-mul-left, mul-left-comm, mul-assoc, mul-comm, mul-mul-mul-comm, sub-zero, le-refl, le-trans, le-of-eq, le-div-iff-mul-le, div-le-of-le-mul, div-mul-le-self, mul-div-mul-right, le-of-mul-le-mul-left, mul-right-comm, div-add-mod', mod-lt}
 use native.Mathlib.Omega.{arith}
 use lib.Dec.{eqb}
 use borrow.Author.Tests.{eqb-false, ne-eqb, ltb-true}
-use Rattle.units.specs.Rounding.{up}
+use Rattle.units.specs.Rounding.{up, up-most}
 use Rattle.units.proofs.Table.{both-true}
 use Rattle.kinds.specs.declared.Kind.the-variants.{Volume, Cycle}
 use Rattle.kinds.specs.declared.Group.the-variants.{Left, Through, Right}
@@ -21,6 +21,7 @@ use Rattle.blocks.specs.declared.Walking.{Walking}
 use Rattle.blocks.specs.declared.Meeting.{Meeting}
 use Rattle.blocks.specs.Blocks.{VolumesOf, FlowsOf, WalkingOf, MeetingOf, Timely}
 use Rattle.clock.proofs.Laws.{time-most}
+use Rattle.flows.proofs.Laws.{turning-between, straight-between, straight-alike}
 use Rattle.lane.proofs.Laws.{shared-out, carries, carried}
 
 -- the lefts of a single approach are folded into its lane, and there are some
@@ -34,37 +35,6 @@ single-folds o h =
     (rw (shared .0), ltb-true 0 (v o Left) (shared .1))
 
 -- ---- what option B takes off
-
--- without folded lefts lines 4 and 8 have the same factor
-turning-alike : (vC a : ℕ) → turningT vC a 0 ≡ turningST vC a
-unfolding turningT turningST
-turning-alike vC a = go (eqb vC 0) refl
-  where
-    whole : (X : ℕ) → X * (100 * vC - 5 * 0) ≡ 100 * X * vC
-    whole X = rw (sub-zero (100 * vC)) (mul-left-comm X 100 vC ∙ sym (mul-assoc 100 X vC))
-
-    go : (t : Bool) → eqb vC 0 ≡ t → cond t 10_000 ((100 * vC - 15 * a) * (100 * vC - 5 * 0) / (vC * vC)) ≡ cond t 10_000 (100 * (100 * vC - 15 * a) / vC)
-    go true e = refl
-    go false e = rw (whole (100 * vC - 15 * a)) (mul-div-mul-right (100 * (100 * vC - 15 * a)) vC (omega (arith, eqb-false vC 0 e)))
-
-turningT-most : (vC a b : ℕ) → turningT vC a b ≤ 10_000
-unfolding turningT
-turningT-most vC a b = go (eqb vC 0)
-  where
-    square : 100 * vC * (100 * vC) ≡ vC * vC * 10_000
-    square = mul-mul-mul-comm 100 vC 100 vC ∙ mul-comm 10_000 (vC * vC)
-
-    go : (t : Bool) → cond t 10_000 ((100 * vC - 15 * a) * (100 * vC - 5 * b) / (vC * vC)) ≤ 10_000
-    go true = omega arith
-    go false = div-le-of-le-mul (vC * vC) (le-trans (mul-le-mul {n₂ = 100 * vC} {m₂ = 100 * vC} (omega arith) (omega arith)) (le-of-eq square))
-
-turningST-least : (vST a : ℕ) → a ≤ vST → 8_500 ≤ turningST vST a
-unfolding turningST
-turningST-least vST a h = go (eqb vST 0) refl
-  where
-    go : (t : Bool) → eqb vST 0 ≡ t → 8_500 ≤ cond t 10_000 (100 * (100 * vST - 15 * a) / vST)
-    go true e = omega arith
-    go false e = le-div-iff-mul-le {k = vST} {x = 8_500} {y = 100 * (100 * vST - 15 * a)} (omega (arith, eqb-false vST 0 e)) .1 (omega arith)
 
 -- a lane less of at most 6 is at most 5/6 of the flow
 lane-less : (F n : ℕ) → 0 < n → n ≤ 6 → 6 * (F * (n - 1) / n) ≤ 5 * F
@@ -102,20 +72,49 @@ flow-beside :
 unfolding flowOf
 flow-beside i n T S h k p r = rw (ne-eqb n 0 (λ (e : n ≡ 0). omega arith)) (beside-most _ T S n h k p r)
 
+-- only a shared lane folds lefts
+unfolded : (s : Approach) → isShared s ≡ false → b s ≡ 0
+unfolding b
+unfolded s e = rw e
+
+shared-beside : (s : Approach) → Fair s → isShared s ≡ true → sB s ≤ sST s
+unfolding sB sST flow fT vST volume
+shared-beside s fair e =
+    let some : 0 < n s Through = fair .shares e in
+    let whole = turning-between (vC s) (a s) (b s) (omega arith) (omega arith) in
+    let least = straight-between (vST s) (a s) (omega arith) in
+    rw e (flow-beside (i s Through) (n s Through) _ _ (whole .most) (least .least) some (fair .group Through .lanes .most))
+
 -- "8,000 − ⌊8000·sB/sST⌋" is never below 0: the flow beside a waiting left is at most the flow without lefts
 pub sB-most : (s : Approach) → Fair s → sB s ≤ sST s
-unfolding sB sST flow fT vST volume b
+unfolding sB
 sB-most s fair = go (isShared s) refl
   where
     go : (t : Bool) → isShared s ≡ t → sB s ≤ sST s
-    go true e =
-        let some : 0 < n s Through = fair .shares e in
-        rw e (flow-beside (i s Through) (n s Through) _ _ (turningT-most _ _ _) (turningST-least _ (a s) (omega arith)) some (fair .group Through .lanes .most))
-    go false e = rw (e, turning-alike, sub-zero) (le-refl _)
+    go true e = shared-beside s fair e
+    go false e = rw e (le-of-eq (sym (straight-alike s (unfolded s e))))
 
 -- what is taken off for the cars beside a waiting left is no more than the 8 seconds
 pub waits-most : (beside flow : ℕ) → beside ≤ flow → 8_000 * beside / flow ≤ 8_000
 waits-most beside flow h = div-le-of-le-mul flow (omega arith)
+
+-- ---- a lane that is no faster takes no less time
+
+up-covers : (a b : ℕ) → 0 < b → a ≤ up a b * b
+unfolding up
+up-covers a b h = omega (arith, div-add-mod' (a + (b - 1)) b, mod-lt (a + (b - 1)) h)
+
+pub time-least : (v lane flow mixed CL : ℕ) → 0 < mixed → v * mixed ≤ lane * flow → time v CL flow ≤ time lane CL mixed
+unfolding time
+time-least v lane flow mixed CL h k =
+    let T = up (1000 * lane * CL) mixed in
+    let covers : 1000 * lane * CL ≤ T * mixed = up-covers (1000 * lane * CL) mixed h in
+    let one : mixed * (1000 * v * CL) ≡ 1000 * CL * (v * mixed) = rw (mul-comm mixed (1000 * v * CL), mul-right-comm 1000 v CL) (mul-assoc (1000 * CL) v mixed) in
+    let two : 1000 * CL * (lane * flow) ≡ flow * (1000 * lane * CL) = rw (mul-comm flow (1000 * lane * CL), mul-right-comm 1000 lane CL) (sym (mul-assoc (1000 * CL) lane flow)) in
+    let three : flow * (T * mixed) ≡ mixed * (T * flow) = rw (mul-comm T mixed, mul-comm T flow) (mul-left-comm flow mixed T) in
+    let less : 1000 * CL * (v * mixed) ≤ 1000 * CL * (lane * flow) = mul-le-mul-left (1000 * CL) k in
+    let more : flow * (1000 * lane * CL) ≤ flow * (T * mixed) = mul-le-mul-left flow covers in
+    up-most T (1000 * v * CL) flow (le-of-mul-le-mul-left {k = mixed} (omega (arith, one, two, three, less, more)) h)
 
 -- ---- no time reaches BLANK
 

@@ -76,19 +76,19 @@ pub fn meeting_of(s: Approach, o: Approach, w: Volumes) -> Meeting
     }
 }
 
-// The T or the L value of line 23, of its heaviest lane and the flow of that lane.
+// The T or the L value of line 23, of its heaviest lane and the flow of that lane, which is seldom the faster one.
 fn option_a_of(lane: Vph, mixed: Vph, volume: Vph, flow: Vph, interference: Ms, cycle: u32) -> Ms
-    requires { ⌜ (lane .0 ≤ 3 * mostOf Volume) × (lane .0 ≤ 7_500 * mixed .0) × (mixed .0 ≤ 144_000_000) × (volume .0 ≤ 3 * mostOf Volume) × (volume .0 ≤ 43 * flow .0) × (flow .0 ≤ 14_400) × (interference .0 ≤ 24_000) × (cycle ≤ mostOf Cycle) ⌝ }
+    requires { ⌜ (lane .0 ≤ 3 * mostOf Volume) × (lane .0 ≤ 7_500 * mixed .0) × (0 < volume .0 → 0 < mixed .0) × (mixed .0 ≤ 144_000_000) × (volume .0 ≤ 3 * mostOf Volume) × (volume .0 ≤ 43 * flow .0) × (flow .0 ≤ 14_400) × (interference .0 ≤ 24_000) × (cycle ≤ mostOf Cycle) ⌝ }
     ensures { λ r. ⌜ r .0 ≡ part (volume .0) (optionAOf (lane .0) (mixed .0) (volume .0) (flow .0) (interference .0) cycle) ⌝ }
 {
     if volume.0 == 0 {
         return Ms(0);
     }
-    let delayed = clock::time_for(lane, cycle, mixed);
-    clock::larger(
-        Ms(delayed.0 + interference.0),
-        clock::time_for(volume, cycle, flow),
-    )
+    let delayed = Ms(clock::time_for(lane, cycle, mixed).0 + interference.0);
+    if volume.0 as u64 * mixed.0 as u64 <= lane.0 as u64 * flow.0 as u64 {
+        return delayed;
+    }
+    clock::larger(delayed, clock::time_for(volume, cycle, flow))
 }
 
 // The L value of line 23: every car of the lane turns left.
@@ -99,7 +99,7 @@ fn left_option_a(volume: Vph, lanes: u32, flow: Vph, oncoming: u32, cycle: u32) 
     if volume.0 == 0 {
         return Ms(0);
     }
-    let lane = Vph(units::divide_up(volume.0 as u64, lanes as u64) as u32);
+    let lane = Vph(lane::share_out(volume.0, lanes));
     let mixed = lane::flow_a(
         flow,
         10_000,
@@ -109,7 +109,7 @@ fn left_option_a(volume: Vph, lanes: u32, flow: Vph, oncoming: u32, cycle: u32) 
     option_a_of(lane, mixed, volume, flow, Ms(0), cycle)
 }
 
-// Line 23 where it is allowed.
+// Line 23 of an approach that has volume.
 fn option_a(
     s: Approach,
     o: Approach,
@@ -121,8 +121,11 @@ fn option_a(
     cycle: u32,
 ) -> Ms
     requires { ⌜ (Fair s) × (VolumesOf s v) × (FlowsOf s f) × (WalkingOf s cycle w) × (MeetingOf s o m) × (LaneOf s o cycle lane) × (FairCycle cycle) ⌝ }
-    ensures { λ r. ⌜ r .0 ≡ optionA s o cycle ⌝ }
+    ensures { λ r. ⌜ r .0 ≡ cond (m .alloweda) (optionA s o cycle) BLANK ⌝ }
 {
+    if !m.alloweda {
+        return Ms(NOT_ALLOWED);
+    }
     let through = option_a_of(
         lane.heaviest,
         lane.flow,
@@ -170,11 +173,14 @@ fn left_b(lefts: Vph, flow: Vph, cycle: u32) -> Ms
     Ms(8_000 + clock::time_for(lefts, cycle, flow).0)
 }
 
-// Line 24 where it is allowed.
-fn option_b(s: Approach, v: Volumes, f: Flows, w: Walking, cycle: u32) -> Ms
+// Line 24 of an approach that has volume.
+fn option_b(allowed: bool, s: Approach, v: Volumes, f: Flows, w: Walking, cycle: u32) -> Ms
     requires { ⌜ (Fair s) × (VolumesOf s v) × (FlowsOf s f) × (WalkingOf s cycle w) × (FairCycle cycle) ⌝ }
-    ensures { λ r. ⌜ r .0 ≡ optionB s cycle ⌝ }
+    ensures { λ r. ⌜ r .0 ≡ cond allowed (optionB s cycle) BLANK ⌝ }
 {
+    if !allowed {
+        return Ms(NOT_ALLOWED);
+    }
     let through = through_b(v.straight, f.straight, flow_b(s, f), w.through, cycle);
     clock::larger(through, left_b(s.left.volume.0, f.lefts, cycle))
 }
@@ -186,12 +192,6 @@ fn is_empty(v: Volumes) -> bool
         return false;
     }
     v.through.0 == 0
-}
-
-fn if_allowed(allowed: bool, time: Ms) -> Ms
-    ensures { λ r. ⌜ r .0 ≡ cond allowed (time .0) BLANK ⌝ }
-{
-    if allowed { time } else { Ms(NOT_ALLOWED) }
 }
 
 // Line 25.
@@ -246,8 +246,8 @@ pub fn permitted_of(
             weighted: Ms(0),
         };
     }
-    let a = if_allowed(m.alloweda, option_a(s, o, v, f, w, m, lane, cycle));
-    let b = if_allowed(m.allowedb, option_b(s, v, f, w, cycle));
+    let a = option_a(s, o, v, f, w, m, lane, cycle);
+    let b = option_b(m.allowedb, s, v, f, w, cycle);
     let lesser = lesser_of(a, b);
     let weighted = weigh_if_allowed(s, w.frequency, lesser);
     Permitted {

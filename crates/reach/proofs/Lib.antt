@@ -1,4 +1,4 @@
-pub mod Among
+pub mod Copies
 pub mod Merging
 pub mod Tables
 pub mod Cells
@@ -7,3 +7,4 @@ pub mod Numbers
 pub mod Lines
 pub mod Parts
 pub mod Untouched
+pub mod Whole

@@ -2,7 +2,6 @@
 use mathlib.Core.Path.{_≡_}
 use mathlib.Core.Bool.{true}
 use Prim.Native.Nat.{ℕ, suc, _-_, _/_, _%_, _≤_, _<_}
-use native.Mathlib.Decide.{decLt}
 use native.Mathlib.Omega.{arith}
 use lib.Dec.{eqb}
 use borrow.Author.Tests.{lt-ltb, le-ltb}
@@ -25,12 +24,3 @@ module _ (i k : ℕ) where
   pub at-last : 201 ≤ k → reached i k ≡ true
   unfolding reached
   at-last h = rw (le-ltb k 81 (omega arith), le-ltb k 193 (omega arith), le-ltb k 201 h)
-
--- four approaches, and 4 for the cycle
-pub approach-few : (i : ℕ) → i < 81 → approachAt i < 5
-unfolding approachAt
-approach-few i h = go (decLt i 60)
-  where
-    go : Dec (i < 60) → approachAt i < 5
-    go (yes p) = rw (lt-ltb i 60 p) (omega arith)
-    go (no p) = rw (le-ltb i 60 (omega arith)) (omega arith)

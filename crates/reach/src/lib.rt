@@ -1,32 +1,14 @@
 // What an amendment of one entry reaches.
 ghost use mathlib.Core.Path.{_≡_};
-ghost use Prim.Native.Nat.{_<_};
+ghost use mathlib.Core.Bool.{true};
+ghost use Prim.Native.Nat.{_+_, _≤_, _<_};
 ghost use lib.ListN.{length};
-ghost use Rattle.kinds.specs.Kinds.{kindAt};
 ghost use Rattle.procedure.specs.Sheet.{sheetCount};
-ghost use Rattle.reach.specs.Reach.{among, ownLine, oppositeLine, ownPair, everywhere, approachAt, opposite, reachedLine, reachedPair, reached, merged};
+ghost use Rattle.reach.specs.Reach.{among, ownLine, oppositeLine, ownPair, approachAt, opposite, mergedFrom, merged};
+ghost use Rattle.reach.specs.Copies.{run, runIf, linesAfter, areLines};
 use kinds::Kind;
 
-// Whether an entry of this kind reaches every line and pair cell.
-fn is_everywhere(kind: Kind) -> bool
-    ensures { λ r. ⌜ r ≡ everywhere kind ⌝ }
-{
-    match kind {
-        Kind::Cycle => true,
-        Kind::Lanes => false,
-        Kind::Volume => false,
-        Kind::IdealFlow => false,
-        Kind::LostTime => false,
-        Kind::MinimumGreen => false,
-        Kind::SharedLane => false,
-        Kind::Pedestrians => false,
-        Kind::PushButton => false,
-        Kind::PedestrianTime => false,
-        Kind::FreeRight => false,
-    }
-}
-
-// Whether it reaches the cells of its own pair.
+// Whether an entry of this kind reaches the cells of its own pair.
 fn is_own_pair(kind: Kind) -> bool
     ensures { λ r. ⌜ r ≡ ownPair kind ⌝ }
 {
@@ -45,59 +27,17 @@ fn is_own_pair(kind: Kind) -> bool
     }
 }
 
-fn is_among(line: usize, lines: &[usize]) -> bool
-    ensures { λ r. ⌜ r ≡ among line (now (lines .entry)) ⌝ }
-{
-    let mut i = 0;
-    while i < lines.len() {
-        if line == lines[i] {
-            return true;
-        }
-        i += 1;
-    }
-    false
-}
-
-// Whether it reaches a line of its own approach.
-fn is_own_line(kind: Kind, line: usize) -> bool
-    ensures { λ r. ⌜ r ≡ ownLine kind line ⌝ }
+// Whether it reaches lines 21 to 26 of the approach opposite, which look across.
+fn is_across(kind: Kind) -> bool
+    ensures { λ r. ⌜ r ≡ oppositeLine kind 26 ⌝ }
 {
     match kind {
         Kind::Lanes => true,
         Kind::Volume => true,
         Kind::IdealFlow => true,
-        Kind::LostTime => is_among(line, &[16, 17, 18, 26, 28]),
-        Kind::MinimumGreen => is_among(line, &[16, 17, 18, 26, 28]),
-        Kind::SharedLane => true,
-        Kind::Pedestrians => is_among(line, &[10, 11, 12, 14, 15, 17, 18, 23, 24, 25, 26, 27, 28]),
-        Kind::PushButton => is_among(line, &[12, 17, 26, 28]),
-        Kind::PedestrianTime => is_among(line, &[17, 26, 28]),
-        Kind::FreeRight => false,
-        Kind::Cycle => true,
-    }
-}
-
-// Lines 21 to 26 look at the approach opposite.
-fn looks_across(line: usize) -> bool
-    ensures { λ r. ⌜ r ≡ oppositeLine Kind.Lanes line ⌝ }
-{
-    if line < 21 {
-        return false;
-    }
-    line <= 26
-}
-
-// Whether it reaches a line of the approach opposite.
-fn is_opposite_line(kind: Kind, line: usize) -> bool
-    ensures { λ r. ⌜ r ≡ oppositeLine kind line ⌝ }
-{
-    match kind {
-        Kind::Lanes => looks_across(line),
-        Kind::Volume => looks_across(line),
-        Kind::IdealFlow => looks_across(line),
         Kind::LostTime => false,
         Kind::MinimumGreen => false,
-        Kind::SharedLane => looks_across(line),
+        Kind::SharedLane => true,
         Kind::Pedestrians => false,
         Kind::PushButton => false,
         Kind::PedestrianTime => false,
@@ -106,9 +46,10 @@ fn is_opposite_line(kind: Kind, line: usize) -> bool
     }
 }
 
-// The approach of an entry.
+// The approach of an entry that is not the cycle.
 fn approach_at(entry: usize) -> usize
-    ensures { λ r. ⌜ r ≡ approachAt entry ⌝ }
+    requires { ⌜ entry < 80 ⌝ }
+    ensures { λ r. ⌜ (r ≡ approachAt entry) × (r < 4) ⌝ }
 {
     if entry < 60 {
         return entry / 15;
@@ -117,8 +58,8 @@ fn approach_at(entry: usize) -> usize
 }
 
 fn opposite_of(approach: usize) -> usize
-    requires { ⌜ approach < 5 ⌝ }
-    ensures { λ r. ⌜ r ≡ opposite approach ⌝ }
+    requires { ⌜ approach < 4 ⌝ }
+    ensures { λ r. ⌜ (r ≡ opposite approach) × (r < 4) ⌝ }
 {
     if approach % 2 == 0 {
         return approach + 1;
@@ -126,59 +67,69 @@ fn opposite_of(approach: usize) -> usize
     approach - 1
 }
 
-// Whether an entry of approach `from` reaches a line of approach `to`.
-fn is_line_reached(kind: Kind, from: usize, to: usize, line: usize) -> bool
-    requires { ⌜ from < 5 ⌝ }
-    ensures { λ r. ⌜ r ≡ reachedLine kind from to line ⌝ }
+// Writes the fresh cells from one on and before another.
+fn copy_run(sheet: &mut [u32], fresh: &[u32], from: usize, to: usize)
+    requires { ⌜ (length (now fresh) ≡ length (now sheet)) × (to ≤ length (now sheet)) ⌝ }
+    ensures { λ _. ⌜ now (sheet .exit) ≡ mergedFrom (run from to) 0 (now (fresh .entry)) (now (sheet .entry)) ⌝ }
 {
-    if is_everywhere(kind) {
-        return true;
+    let mut cell = from;
+    while cell < to {
+        sheet[cell] = fresh[cell];
+        cell += 1;
     }
-    if to == from {
-        return is_own_line(kind, line);
-    }
-    if to == opposite_of(from) {
-        return is_opposite_line(kind, line);
-    }
-    false
 }
 
-// Whether it reaches the cells of a pair.
-fn is_pair_reached(kind: Kind, from: usize, pair: usize) -> bool
-    ensures { λ r. ⌜ r ≡ reachedPair kind from pair ⌝ }
+// Writes them if they are wanted.
+fn copy_if(wanted: bool, sheet: &mut [u32], fresh: &[u32], from: usize, to: usize)
+    requires { ⌜ (length (now fresh) ≡ length (now sheet)) × (to ≤ length (now sheet)) ⌝ }
+    ensures { λ _. ⌜ now (sheet .exit) ≡ mergedFrom (runIf wanted from to) 0 (now (fresh .entry)) (now (sheet .entry)) ⌝ }
 {
-    if is_everywhere(kind) {
-        return true;
+    if wanted {
+        copy_run(sheet, fresh, from, to);
     }
-    if pair != from / 2 {
-        return false;
-    }
-    is_own_pair(kind)
 }
 
-// Whether the amendment of an entry, of this kind and approach, reaches a cell of the sheet.
-fn is_cell_reached(entry: usize, kind: Kind, from: usize, cell: usize) -> bool
-    requires { ⌜ (entry < 81) × (kind ≡ kindAt entry) × (from ≡ approachAt entry) ⌝ }
-    ensures { λ r. ⌜ r ≡ reached entry cell ⌝ }
+// Writes the fresh lines that a list names, of those after a cell.
+fn copy_lines(sheet: &mut [u32], fresh: &[u32], before: usize, lines: &[usize])
+    requires { ⌜ (length (now fresh) ≡ length (now sheet)) × (before + 28 < length (now sheet)) × (areLines (now lines) ≡ true) ⌝ }
+    ensures { λ _. ⌜ now (sheet .exit) ≡ mergedFrom (linesAfter before (λ k. among k (now (lines .entry)))) 0 (now (fresh .entry)) (now (sheet .entry)) ⌝ }
 {
-    if cell < 81 {
-        return cell == entry;
+    let mut i = 0;
+    while i < lines.len() {
+        let cell = before + lines[i];
+        sheet[cell] = fresh[cell];
+        i += 1;
     }
-    if cell < 193 {
-        return is_line_reached(kind, from, (cell - 81) / 28, (cell - 81) % 28 + 1);
-    }
-    if cell < 201 {
-        return is_pair_reached(kind, from, (cell - 193) / 4);
-    }
-    true
 }
 
-// Whether the amendment of an entry reaches a cell of the sheet.
-pub fn is_reached(entry: usize, cell: usize) -> bool
-    requires { ⌜ entry < 81 ⌝ }
-    ensures { λ r. ⌜ r ≡ reached entry cell ⌝ }
+// Writes the lines that an entry of this kind reaches of its own approach, whose first stands after a cell.
+fn copy_own(sheet: &mut [u32], fresh: &[u32], kind: Kind, before: usize)
+    requires { ⌜ (length (now fresh) ≡ length (now sheet)) × (before + 28 < length (now sheet)) ⌝ }
+    ensures { λ _. ⌜ now (sheet .exit) ≡ mergedFrom (linesAfter before (ownLine kind)) 0 (now (fresh .entry)) (now (sheet .entry)) ⌝ }
 {
-    is_cell_reached(entry, Kind::at(entry), approach_at(entry), cell)
+    match kind {
+        Kind::LostTime | Kind::MinimumGreen => copy_lines(
+            sheet,
+            fresh,
+            before,
+            &[16, 17, 18, 26, 28],
+        ),
+        Kind::Pedestrians => copy_lines(
+            sheet,
+            fresh,
+            before,
+            &[10, 11, 12, 14, 15, 17, 18, 23, 24, 25, 26, 27, 28],
+        ),
+        Kind::PushButton => copy_lines(sheet, fresh, before, &[12, 17, 26, 28]),
+        Kind::PedestrianTime => copy_lines(sheet, fresh, before, &[17, 26, 28]),
+        Kind::FreeRight => {}
+        Kind::Lanes | Kind::Volume | Kind::IdealFlow | Kind::SharedLane | Kind::Cycle => copy_run(
+            sheet,
+            fresh,
+            before + 1,
+            before + 29,
+        ),
+    }
 }
 
 // Writes the fresh cells that the amendment of an entry reaches; the others stay, whatever they held.
@@ -186,13 +137,17 @@ pub fn renew(sheet: &mut [u32], fresh: &[u32], entry: usize)
     requires { ⌜ (length (now sheet) ≡ sheetCount) × (length (now fresh) ≡ sheetCount) × (entry < 81) ⌝ }
     ensures { λ _. ⌜ now (sheet .exit) ≡ merged entry (now (fresh .entry)) (now (sheet .entry)) ⌝ }
 {
+    if entry == 80 {
+        copy_run(sheet, fresh, 80, 209); // the cycle reaches every line and pair cell
+        return;
+    }
     let kind = Kind::at(entry);
     let from = approach_at(entry);
-    let mut cell = 0;
-    while cell < sheet.len() {
-        if is_cell_reached(entry, kind, from, cell) {
-            sheet[cell] = fresh[cell];
-        }
-        cell += 1;
-    }
+    copy_own(sheet, fresh, kind, 80 + 28 * from);
+    let across = 80 + 28 * opposite_of(from);
+    copy_if(is_across(kind), sheet, fresh, across + 21, across + 27);
+    let pair = 193 + 4 * (from / 2);
+    copy_if(is_own_pair(kind), sheet, fresh, pair, pair + 4);
+    copy_run(sheet, fresh, 201, 209);
+    sheet[entry] = fresh[entry];
 }

@@ -26,11 +26,14 @@ fn part_time(volume: Vph, flow: Vph, interference: Ms, cycle: u32) -> Ms
     Ms(clock::time_for(volume, cycle, flow).0 + interference.0)
 }
 
-// Line 27.
+// Line 27; without folded lefts its parts are lines 13 and 14.
 fn largest_of(s: Approach, v: Volumes, f: Flows, w: Walking, t: Times, cycle: u32) -> Ms
     requires { ⌜ (Fair s) × (VolumesOf s v) × (FlowsOf s f) × (WalkingOf s cycle w) × (TimesOf s cycle t) × (FairCycle cycle) ⌝ }
     ensures { λ r. ⌜ (r .0 ≡ line27 s cycle) × (r .0 ≤ 10_344_000) ⌝ }
 {
+    if v.foldedleft.0 == 0 {
+        return clock::larger(t.through, t.left);
+    }
     let straight = part_time(v.straight, f.straight, w.through, cycle);
     let lefts = part_time(s.left.volume.0, f.lefts, Ms(0), cycle);
     clock::larger(t.through, clock::larger(straight, lefts))

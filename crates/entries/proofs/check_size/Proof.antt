@@ -2,15 +2,11 @@ use Rattle.entries.specs.Judging.{sizeAnswer}
 use borrow.Author.Tests.{eq-eqb, ne-eqb}
 use Rattle.entries.proofs.check_size.Statement.{statement}
 use Rattle.entries.proofs.check_size.Tie as tie
-use Rattle.entries.proofs.check_size.Reads as reads
-use Rattle.entries.proofs.check_size.Lts as lts
 
--- src/lib.rt:35:9
 returns : tie.Need-returns
 unfolding sizeAnswer
 returns c = rw (ne-eqb _ _ (c .if1 .taken))
 
--- src/lib.rt:31:1
 returns-2 : tie.Need-returns-2
 unfolding sizeAnswer
 returns-2 c = rw (c .if1 .left)

@@ -2,69 +2,49 @@ use native.Mathlib.Omega.{arith}
 use borrow.Author.Needs.{needs}
 use Rattle.entries.proofs.is_faulty.Statement.{statement}
 use Rattle.entries.proofs.is_faulty.Tie as tie
-use Rattle.entries.proofs.is_faulty.Reads as reads
-use Rattle.entries.proofs.is_faulty.Lts as lts
-use Rattle.entries.proofs.is_badly_shared.Reads as is-badly-shared-reads
-use Rattle.entries.proofs.is_outside.Reads as is-outside-reads
-use Rattle.entries.proofs.is_unserved.Reads as is-unserved-reads
 
--- src/lib.rt:104:27
 enum-told : tie.Need-enum-told
 enum-told c = search needs
 
--- src/lib.rt:104:27
 is-outside-requires : tie.Need-is-outside-requires
 is-outside-requires c κs = omega (arith, rw (c .enum-told .given .1) at (c .before .before .before .pre .1))
 
--- src/lib.rt:105:28
 enum-told-2 : tie.Need-enum-told-2
 enum-told-2 c = search needs
 
--- src/lib.rt:105:28
 is-badly-shared-requires : tie.Need-is-badly-shared-requires
 is-badly-shared-requires c κs = omega (arith, rw (c .enum-told2 .given .1) at (c .before .before .before .pre .1))
 
--- src/lib.rt:106:28
 enum-told-3 : tie.Need-enum-told-3
 enum-told-3 c = search needs
 
--- src/lib.rt:106:28
 is-unserved-requires : tie.Need-is-unserved-requires
 is-unserved-requires c κs = omega (arith, rw (c .enum-told3 .given .1) at (c .before .before .before .pre .1))
 
--- src/lib.rt:107:26
 enum-told-4 : tie.Need-enum-told-4
 enum-told-4 c = search needs
 
--- src/lib.rt:108:27
 enum-told-5 : tie.Need-enum-told-5
 enum-told-5 c = search needs
 
--- src/lib.rt:109:26
 enum-told-6 : tie.Need-enum-told-6
 enum-told-6 c = search needs
 
--- src/lib.rt:99:1
 returns : tie.Need-returns
 returns c = rw (c .before .enum-told .given .1) (c .is-outside .ensures)
 
--- src/lib.rt:99:1
 returns-2 : tie.Need-returns-2
 returns-2 c = rw (c .before .enum-told2 .given .1) (c .is-badly-shared .ensures)
 
--- src/lib.rt:99:1
 returns-3 : tie.Need-returns-3
 returns-3 c = rw (c .before .enum-told3 .given .1) (c .is-unserved .ensures)
 
--- src/lib.rt:99:1
 returns-4 : tie.Need-returns-4
 returns-4 c = search needs
 
--- src/lib.rt:99:1
 returns-5 : tie.Need-returns-5
 returns-5 c = search needs
 
--- src/lib.rt:99:1
 returns-6 : tie.Need-returns-6
 returns-6 c = search needs
 

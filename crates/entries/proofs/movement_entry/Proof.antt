@@ -3,26 +3,19 @@ use mathlib.Core.Path.{refl}
 use borrow.Author.Needs.{needs}
 use Rattle.entries.proofs.movement_entry.Statement.{statement}
 use Rattle.entries.proofs.movement_entry.Tie as tie
-use Rattle.entries.proofs.movement_entry.Reads as reads
-use Rattle.entries.proofs.movement_entry.Lts as lts
 
--- src/lib.rt:20:13
 mul-result : tie.Need-mul-result
 mul-result c = search needs
 
--- src/lib.rt:20:13
 add-result : tie.Need-add-result
 add-result c = search needs
 
--- src/lib.rt:20:5
 mul-result-2 : tie.Need-mul-result-2
 mul-result-2 c = search needs
 
--- src/lib.rt:20:5
 shared-slice-read-result : tie.Need-shared-slice-read-result
 shared-slice-read-result c = search needs
 
--- src/lib.rt:16:1
 returns : tie.Need-returns
 unfolding movementEntry
 returns c = refl

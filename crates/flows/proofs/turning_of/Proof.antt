@@ -1,15 +1,20 @@
-use native.Mathlib.Nat.{mul-le-mul, mul-pos}
-use native.Mathlib.Omega.{arith}
-use borrow.Author.Tests.{eq-eqb, ne-eqb}
+use Rattle.flows.proofs.Laws.{turning-product, turning-quotient, turning-alike}
 use Rattle.procedure.specs.Lines.{turningT}
-use Rattle.flows.proofs.Laws.{turning-product, turning-quotient}
+use borrow.Author.Tests.{ne-eqb}
+use native.Mathlib.Omega.{arith}
+use native.Mathlib.Nat.{mul-le-mul, mul-pos}
+use mathlib.Core.Path.{_≡_}
 use borrow.Author.Needs.{needs}
 use Rattle.flows.proofs.turning_of.Statement.{statement}
 use Rattle.flows.proofs.turning_of.Tie as tie
 
+straight-turning-of-requires : tie.Need-straight-turning-of-requires
+straight-turning-of-requires c κs = search needs
+
 returns : tie.Need-returns
-unfolding turningT
-returns c = (rw (eq-eqb _ _ (c .if1 .taken)), search needs)
+returns c =
+    let alone = c .straight-turning-of .ensures in
+    (rw (c .before .if1 .taken, turning-alike) (alone .0), alone .1)
 
 cast-v : tie.Need-cast-v
 cast-v c = search needs
@@ -55,19 +60,21 @@ div-result c = mul-pos (omega arith) (omega arith)
 cast-result : tie.Need-cast-result
 cast-result c =
     let s = c .before .before .before .before .before in
-    omega (arith, turning-quotient (s .args .through .0) (s .args .right .0) (s .args .left .0) (c .before .before .before .if1 .left) (s .pre .1) (s .pre .2) .most)
+    let z : s .args .through .0 ≡ 0 → ⊥ = λ none. omega (arith, c .before .before .before .if1 .left) in
+    omega (arith, turning-quotient (s .args .through .0) (s .args .right .0) (s .args .left .0) z (s .pre .1) (s .pre .2) .most)
 
 returns-2 : tie.Need-returns-2
 unfolding turningT
 returns-2 c =
     let s = c .before .before .before .before .before in
-    let z = c .before .before .before .if1 .left in
+    let z : s .args .through .0 ≡ 0 → ⊥ = λ none. omega (arith, c .before .before .before .if1 .left) in
     (rw (ne-eqb _ _ z), turning-quotient (s .args .through .0) (s .args .right .0) (s .args .left .0) z (s .pre .1) (s .pre .2) .most)
 
 pub turning-of-spec : {M : Type 1} → statement M
 turning-of-spec =
     tie.close
     (tie.spec
+    straight-turning-of-requires
     returns
     cast-v
     mul-rights

@@ -1,8 +1,9 @@
-use Prim.Native.Nat.{_≤_}
-use native.Mathlib.Omega.{arith}
-use Rattle.units.specs.Rounding.{up-most}
+use Rattle.lane.proofs.Laws.{EquivalentRoom, equivalent-room, equivalent-alike}
 use Rattle.procedure.specs.Lines.{equivalent}
-use Rattle.lane.proofs.Laws.{EquivalentRoom, equivalent-room}
+use Rattle.units.specs.Rounding.{up-most}
+use native.Mathlib.Nat.{mul-le-mul}
+use native.Mathlib.Omega.{arith}
+use Prim.Native.Nat.{_*_, _-_, _≤_}
 use borrow.Author.Needs.{needs}
 use Rattle.lane.proofs.equivalent_of.Statement.{statement}
 use Rattle.lane.proofs.equivalent_of.Tie as tie
@@ -10,8 +11,30 @@ use Rattle.lane.proofs.equivalent_of.Tie as tie
 room : (s : tie.Start) → EquivalentRoom (s .args .share) (s .args .oncoming) (s .args .cycle)
 room s = equivalent-room (s .args .share) (s .args .oncoming) (s .args .cycle) (s .pre .0) (s .pre .1) (s .pre .2)
 
+rest : (s : tie.Start) → s .args .share * (10_000 - s .args .share) ≤ 100_000_000
+rest s = mul-le-mul {n₂ = 10_000} {m₂ = 10_000} (s .pre .0) (omega arith)
+
 most : (d : tie.After-divide-up) → d .divide-up .result ≤ 1_560_000
-most d = rw (d .divide-up .ensures) (up-most 1_560_000 _ _ (omega (arith, room (d .before))))
+most d = rw (d .divide-up .ensures) (up-most 1_560_000 _ _ (omega (arith, room (d .before .before))))
+
+sub-if1 : tie.Need-sub-if1
+sub-if1 c = search needs
+
+mul-if1 : tie.Need-mul-if1
+mul-if1 c = omega (arith, rest c)
+
+add-if1 : tie.Need-add-if1
+add-if1 c = omega (arith, rest c)
+
+mul-result : tie.Need-mul-result
+mul-result c = search needs
+
+returns : tie.Need-returns
+returns c =
+    let s = c .before in
+    let x = s .args in
+    let is = equivalent-alike (x .share) (x .oncoming) (x .cycle) (s .pre .0) (c .if1 .taken) in
+    (rw is, omega (arith, is, room s), omega (arith, is, room s))
 
 mul-over : tie.Need-mul-over
 mul-over c = search needs
@@ -20,16 +43,16 @@ add-over : tie.Need-add-over
 add-over c = search needs
 
 mul-over-2 : tie.Need-mul-over-2
-mul-over-2 c = omega (arith, room c)
+mul-over-2 c = omega (arith, room (c .before))
 
 mul-over-3 : tie.Need-mul-over-3
-mul-over-3 c = omega (arith, room c)
+mul-over-3 c = omega (arith, room (c .before))
 
 sub-over : tie.Need-sub-over
-sub-over c = omega (arith, room c)
+sub-over c = omega (arith, room (c .before))
 
 mul-over-4 : tie.Need-mul-over-4
-mul-over-4 c = omega (arith, room c)
+mul-over-4 c = omega (arith, room (c .before))
 
 add-under : tie.Need-add-under
 add-under c = search needs
@@ -38,28 +61,33 @@ mul-under : tie.Need-mul-under
 mul-under c = search needs
 
 mul-under-2 : tie.Need-mul-under-2
-mul-under-2 c = omega (arith, room c)
+mul-under-2 c = omega (arith, room (c .before))
 
 add-under-2 : tie.Need-add-under-2
-add-under-2 c = omega (arith, room c)
+add-under-2 c = omega (arith, room (c .before))
 
 mul-under-3 : tie.Need-mul-under-3
-mul-under-3 c = omega (arith, room c)
+mul-under-3 c = omega (arith, room (c .before))
 
 divide-up-requires : tie.Need-divide-up-requires
-divide-up-requires c κs = omega (arith, room c)
+divide-up-requires c κs = omega (arith, room (c .before))
 
 cast-result : tie.Need-cast-result
 cast-result c = omega (arith, most c)
 
-returns : tie.Need-returns
+returns-2 : tie.Need-returns-2
 unfolding equivalent
-returns c = (c .divide-up .ensures, omega (arith, room (c .before), c .divide-up .ensures), most c)
+returns-2 c = (c .divide-up .ensures, omega (arith, room (c .before .before), c .divide-up .ensures), most c)
 
 pub equivalent-of-spec : {M : Type 1} → statement M
 equivalent-of-spec =
     tie.close
     (tie.spec
+    sub-if1
+    mul-if1
+    add-if1
+    mul-result
+    returns
     mul-over
     add-over
     mul-over-2
@@ -73,4 +101,4 @@ equivalent-of-spec =
     mul-under-3
     divide-up-requires
     cast-result
-    returns)
+    returns-2)

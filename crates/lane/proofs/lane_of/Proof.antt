@@ -64,7 +64,7 @@ returns c =
 heaviest-lane-requires : tie.Need-heaviest-lane-requires
 heaviest-lane-requires c κs =
     let s = c .before .before in
-    (s .pre .1 .foldedleft-most, s .pre .1 .through-most, s .pre .0 .served Through (omega (arith, s .pre .1 .through, c .if1 .left)))
+    (s .pre .1 .foldedleft-most, s .pre .1 .through-most, s .pre .0 .served Through (some c), s .pre .0 .group Through .lanes .most)
 
 share-of-lefts-requires : tie.Need-share-of-lefts-requires
 share-of-lefts-requires c κs = search needs

@@ -1,4 +1,5 @@
 use native.Mathlib.Omega.{arith}
+use borrow.Author.Tests.{not-true, not-false}
 use Rattle.kinds.specs.declared.Group.the-variants.{Left}
 use Rattle.procedure.specs.Lines.{optionA, leftA}
 use Rattle.lane.proofs.Laws.{carried}
@@ -6,26 +7,31 @@ use borrow.Author.Needs.{needs}
 use Rattle.permitted.proofs.option_a.Statement.{statement}
 use Rattle.permitted.proofs.option_a.Tie as tie
 
+returns : tie.Need-returns
+returns c = rw (not-true (c .before .before .args .m .alloweda) (c .if1 .taken))
+
 option-a-of-requires : tie.Need-option-a-of-requires
 option-a-of-requires c κs =
-    let s = c .args in
-    let volumes = c .pre .1 in
-    let flows = c .pre .2 in
-    let lane = c .pre .5 in
-    let room = carried (s .s) (s .o) (s .cycle) (s .v) (s .f) (s .m) (c .pre .0) volumes flows (c .pre .4) (c .pre .6) in (
+    let s = c .before .before in
+    let x = s .args in
+    let volumes = s .pre .1 in
+    let flows = s .pre .2 in
+    let lane = s .pre .5 in
+    let room = carried (x .s) (x .o) (x .cycle) (x .v) (x .f) (x .m) (s .pre .0) volumes flows (s .pre .4) (s .pre .6) in (
       lane .heaviest-most,
       lane .flow-serves,
+      (λ some. rw (lane .flow) (room .flow-least (omega (arith, volumes .through)))),
       rw (lane .flow) (room .flow-most),
       volumes .through-most,
       rw (volumes .through) (flows .through-serves),
       flows .through-most,
-      c .pre .3 .through-most,
-      c .pre .6 .most,
+      s .pre .3 .through-most,
+      s .pre .6 .most,
     )
 
 left-option-a-requires : tie.Need-left-option-a-requires
 left-option-a-requires c κs =
-    let s = c .before in
+    let s = c .before .before .before in
     let volumes = s .pre .1 in
     let flows = s .pre .2 in (
       volumes .left-most,
@@ -40,14 +46,15 @@ left-option-a-requires c κs =
 larger-requires : tie.Need-larger-requires
 larger-requires c κs = search needs
 
-returns : tie.Need-returns
+returns-2 : tie.Need-returns-2
 unfolding optionA leftA
-returns c =
-    let s = c .before .before .before in
+returns-2 c =
+    let s = c .before .before .before .before .before in
     let volumes = s .pre .1 in
     let flows = s .pre .2 in
     let lane = s .pre .5 in
     rw (
+      not-false (s .args .m .alloweda) (c .before .before .before .if1 .left),
       c .larger .ensures,
       c .before .left-option-a .ensures,
       c .before .before .option-a-of .ensures,
@@ -63,4 +70,4 @@ returns c =
 
 pub option-a-spec : {M : Type 1} → statement M
 option-a-spec =
-    tie.close (tie.spec option-a-of-requires left-option-a-requires larger-requires returns)
+    tie.close (tie.spec returns option-a-of-requires left-option-a-requires larger-requires returns-2)

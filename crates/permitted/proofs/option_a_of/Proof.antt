@@ -1,5 +1,8 @@
-use borrow.Author.Tests.{eq-eqb, ne-eqb}
+use Rattle.permitted.proofs.Laws.{time-least}
 use Rattle.procedure.specs.Lines.{optionAOf}
+use borrow.Author.Tests.{eq-eqb, ne-eqb}
+use native.Mathlib.Nat.{mul-le-mul}
+use native.Mathlib.Omega.{arith}
 use borrow.Author.Needs.{needs}
 use Rattle.permitted.proofs.option_a_of.Statement.{statement}
 use Rattle.permitted.proofs.option_a_of.Tie as tie
@@ -10,8 +13,40 @@ returns c = rw (eq-eqb _ _ (c .if1 .taken))
 time-for-requires : tie.Need-time-for-requires
 time-for-requires c κs = search needs
 
-add-t9 : tie.Need-add-t9
-add-t9 c = search needs
+add-t10 : tie.Need-add-t10
+add-t10 c = search needs
+
+cast-if2 : tie.Need-cast-if2
+cast-if2 c = search needs
+
+cast-if2-2 : tie.Need-cast-if2-2
+cast-if2-2 c = search needs
+
+mul-if2 : tie.Need-mul-if2
+mul-if2 c =
+    let s = c .before .before .before .before .before .before .before in
+    omega (arith, mul-le-mul (s .pre .4) (s .pre .3))
+
+cast-if2-3 : tie.Need-cast-if2-3
+cast-if2-3 c = search needs
+
+cast-if2-4 : tie.Need-cast-if2-4
+cast-if2-4 c = search needs
+
+mul-if2-2 : tie.Need-mul-if2-2
+mul-if2-2 c =
+    let s = c .before .before .before .before .before .before .before .before .before in
+    omega (arith, mul-le-mul (s .pre .0) (s .pre .6))
+
+returns-2 : tie.Need-returns-2
+unfolding optionAOf
+returns-2 c =
+    let d = c .before .before .before .before .before .before .before in
+    let some = d .before .if1 .left in
+    let s = d .before .before .before in
+    let x = s .args in
+    let shorter = time-least (x .volume .0) (x .lane .0) (x .flow .0) (x .mixed .0) (x .cycle) (s .pre .2 (omega arith)) (c .if2 .taken) in
+    rw (ne-eqb _ _ some) (omega (arith, d .time-for .ensures .0, shorter))
 
 time-for-requires-2 : tie.Need-time-for-requires-2
 time-for-requires-2 c κs = search needs
@@ -19,11 +54,26 @@ time-for-requires-2 c κs = search needs
 larger-requires : tie.Need-larger-requires
 larger-requires c κs = search needs
 
-returns-2 : tie.Need-returns-2
+returns-3 : tie.Need-returns-3
 unfolding optionAOf
-returns-2 c = rw (ne-eqb _ _ (c .before .before .before .before .before .if1 .left), c .larger .ensures, c .before .time-for2 .ensures .0, c .before .before .before .before .time-for .ensures .0)
+returns-3 c =
+    let d = c .before .before .before .before .before .before .before .before .before in
+    rw (ne-eqb _ _ (d .before .if1 .left), c .larger .ensures, c .before .time-for2 .ensures .0, d .time-for .ensures .0)
 
 pub option-a-of-spec : {M : Type 1} → statement M
 option-a-of-spec =
     tie.close
-    (tie.spec returns time-for-requires add-t9 time-for-requires-2 larger-requires returns-2)
+    (tie.spec
+    returns
+    time-for-requires
+    add-t10
+    cast-if2
+    cast-if2-2
+    mul-if2
+    cast-if2-3
+    cast-if2-4
+    mul-if2-2
+    returns-2
+    time-for-requires-2
+    larger-requires
+    returns-3)

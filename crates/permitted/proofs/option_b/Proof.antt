@@ -1,4 +1,5 @@
 use native.Mathlib.Omega.{arith}
+use borrow.Author.Tests.{not-true, not-false}
 use Rattle.kinds.specs.declared.Group.the-variants.{Left}
 use Rattle.procedure.specs.Lines.{optionB}
 use Rattle.permitted.proofs.Laws.{sB-most}
@@ -6,12 +7,15 @@ use borrow.Author.Needs.{needs}
 use Rattle.permitted.proofs.option_b.Statement.{statement}
 use Rattle.permitted.proofs.option_b.Tie as tie
 
+returns : tie.Need-returns
+returns c = rw (not-true (c .before .args .allowed) (c .if1 .taken))
+
 flow-b-requires : tie.Need-flow-b-requires
 flow-b-requires c κs = search needs
 
 through-b-requires : tie.Need-through-b-requires
 through-b-requires c κs =
-    let s = c .before in
+    let s = c .before .before in
     let volumes = s .pre .1 in
     let flows = s .pre .2 in (
       omega (arith, volumes .straight-most, volumes .through-most),
@@ -24,18 +28,19 @@ through-b-requires c κs =
 
 left-b-requires : tie.Need-left-b-requires
 left-b-requires c κs =
-    let s = c .before .before in
+    let s = c .before .before .before in
     (s .pre .0 .group Left .counted .most, s .pre .2 .lefts-serve, s .pre .2 .lefts-most, s .pre .4 .most)
 
 larger-requires : tie.Need-larger-requires
 larger-requires c κs = search needs
 
-returns : tie.Need-returns
+returns-2 : tie.Need-returns-2
 unfolding optionB
-returns c =
-    let s = c .before .before .before .before in
+returns-2 c =
+    let s = c .before .before .before .before .before in
     let flows = s .pre .2 in
     rw (
+      not-false (s .args .allowed) (c .before .before .before .before .if1 .left),
       c .larger .ensures,
       c .before .left-b .ensures,
       c .before .before .through-b .ensures,
@@ -48,4 +53,4 @@ returns c =
 
 pub option-b-spec : {M : Type 1} → statement M
 option-b-spec =
-    tie.close (tie.spec flow-b-requires through-b-requires left-b-requires larger-requires returns)
+    tie.close (tie.spec returns flow-b-requires through-b-requires left-b-requires larger-requires returns-2)

@@ -15,31 +15,31 @@ some : (d : tie.Else1) → empty (d .before .before .args .s) ≡ false
 some d = sym (none-is (d .before)) ∙ d .if1 .left
 
 a-is :
-    (d : tie.After-if-allowed)
-    → d .if-allowed .result .0 ≡ line23 (d .before .before .before .before .args .s) (d .before .before .before .before .args .o) (d .before .before .before .before .args .cycle)
+    (d : tie.After-option-a)
+    → d .option-a .result .0 ≡ line23 (d .before .before .before .args .s) (d .before .before .before .args .o) (d .before .before .before .args .cycle)
 unfolding line23
 a-is d =
-    rw (some (d .before .before), ← d .before .before .before .before .pre .4 .alloweda, ← d .before .option-a .ensures) (d .if-allowed .ensures)
+    rw (some (d .before), ← d .before .before .before .pre .4 .alloweda) (d .option-a .ensures)
 
 b-is :
-    (d : tie.After-if-allowed2)
-    → d .if-allowed2 .result .0 ≡ line24 (d .before .before .before .before .before .before .args .s) (d .before .before .before .before .before .before .args .o) (d .before .before .before .before .before .before .args .cycle)
+    (d : tie.After-option-b)
+    → d .option-b .result .0 ≡ line24 (d .before .before .before .before .args .s) (d .before .before .before .before .args .o) (d .before .before .before .before .args .cycle)
 unfolding line24
 b-is d =
-    rw (some (d .before .before .before .before), ← d .before .before .before .before .before .before .pre .4 .allowedb, ← d .before .option-b .ensures) (d .if-allowed2 .ensures)
+    rw (some (d .before .before), ← d .before .before .before .before .pre .4 .allowedb) (d .option-b .ensures)
 
 lesser-is :
     (d : tie.After-lesser-of)
-    → d .lesser-of .result .0 ≡ line25 (d .before .before .before .before .before .before .before .args .s) (d .before .before .before .before .before .before .before .args .o) (d .before .before .before .before .before .before .before .args .cycle)
+    → d .lesser-of .result .0 ≡ line25 (d .before .before .before .before .before .args .s) (d .before .before .before .before .before .args .o) (d .before .before .before .before .before .args .cycle)
 unfolding line25
-lesser-is d = rw (← a-is (d .before .before .before), ← b-is (d .before)) (d .lesser-of .ensures)
+lesser-is d = rw (← a-is (d .before .before), ← b-is (d .before)) (d .lesser-of .ensures)
 
 weighted-is :
     (d : tie.After-weigh-if-allowed)
-    → d .weigh-if-allowed .result .0 ≡ line26 (d .before .before .before .before .before .before .before .before .args .s) (d .before .before .before .before .before .before .before .before .args .o) (d .before .before .before .before .before .before .before .before .args .cycle)
+    → d .weigh-if-allowed .result .0 ≡ line26 (d .before .before .before .before .before .before .args .s) (d .before .before .before .before .before .before .args .o) (d .before .before .before .before .before .before .args .cycle)
 unfolding line26 weighted
 weighted-is d =
-    rw (some (d .before .before .before .before .before .before), ← lesser-is (d .before), ← d .before .before .before .before .before .before .before .before .pre .3 .frequency) (d .weigh-if-allowed .ensures .0)
+    rw (some (d .before .before .before .before), ← lesser-is (d .before), ← d .before .before .before .before .before .before .pre .3 .frequency) (d .weigh-if-allowed .ensures .0)
 
 is-empty-requires : tie.Need-is-empty-requires
 is-empty-requires c κs = search needs
@@ -53,21 +53,15 @@ returns c =
 option-a-requires : tie.Need-option-a-requires
 option-a-requires c κs = search needs
 
-if-allowed-requires : tie.Need-if-allowed-requires
-if-allowed-requires c κs = search needs
-
 option-b-requires : tie.Need-option-b-requires
 option-b-requires c κs = search needs
-
-if-allowed-requires-2 : tie.Need-if-allowed-requires-2
-if-allowed-requires-2 c κs = search needs
 
 lesser-of-requires : tie.Need-lesser-of-requires
 lesser-of-requires c κs = search needs
 
 weigh-if-allowed-requires : tie.Need-weigh-if-allowed-requires
 weigh-if-allowed-requires c κs =
-    let s = c .before .before .before .before .before .before .before in
+    let s = c .before .before .before .before .before in
     let x = s .args in (
       s .pre .0,
       s .pre .3 .frequency-most,
@@ -77,7 +71,7 @@ weigh-if-allowed-requires c κs =
 returns-2 : tie.Need-returns-2
 returns-2 c =
     record {
-      a = a-is (c .before .before .before .before);
+      a = a-is (c .before .before .before);
       b = b-is (c .before .before);
       lesser = lesser-is (c .before);
       weighted = weighted-is c;
@@ -91,9 +85,7 @@ permitted-of-spec =
     is-empty-requires
     returns
     option-a-requires
-    if-allowed-requires
     option-b-requires
-    if-allowed-requires-2
     lesser-of-requires
     weigh-if-allowed-requires
     returns-2)

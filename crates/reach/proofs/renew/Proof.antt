@@ -1,82 +1,142 @@
-use Rattle.reach.proofs.Merging.{Renewed, renewed-none, renewed-reached, renewed-kept, renewed-all}
-use Rattle.reach.specs.Reach.{reached}
-use borrow.Author.Needs.{needs}
+use Rattle.reach.proofs.Whole.{cycle-copied, parts-copied}
 use native.Mathlib.Omega.{arith}
-use denote.Ref.{now}
-use lib.ListN.{length}
-use mathlib.Core.Logic.{⊎-elim}
-use mathlib.Core.Path.{sym, _∙_}
-use Prim.Native.Nat.{_-_, _<_}
+use lib.ListN.{length-set}
+use borrow.Author.Needs.{needs}
 use Rattle.reach.proofs.renew.Statement.{statement}
 use Rattle.reach.proofs.renew.Tie as tie
 
-abbrev Inv-loop : tie.InvT-loop
-Inv-loop sheet₀ fresh entry kind from cell₀ sheet cell = Renewed (reached entry) fresh sheet₀ sheet cell
+copy-run-requires : tie.Need-copy-run-requires
+copy-run-requires c κs = search needs
 
-abbrev μ-loop : tie.MeasureT-loop
-μ-loop sheet₀ fresh entry kind from cell₀ sheet cell = length sheet₀ - cell
-
-at-requires : tie.Need-at-requires Inv-loop μ-loop
-at-requires c κs = search needs
-
-approach-at-requires : tie.Need-approach-at-requires Inv-loop μ-loop
-approach-at-requires c κs = search needs
-
-loop-holds : tie.Need-loop-holds Inv-loop μ-loop
-loop-holds c = renewed-none (omega (arith, c .before .before .before .before .pre))
-
-is-cell-reached-requires : tie.Need-is-cell-reached-requires Inv-loop μ-loop
-is-cell-reached-requires c κs = search needs
-
-mul-sheet : tie.Need-mul-sheet Inv-loop μ-loop
-mul-sheet c = search needs
-
-shared-slice-read-sheet : tie.Need-shared-slice-read-sheet Inv-loop μ-loop
-shared-slice-read-sheet c = search needs
-
-mul-sheet-2 : tie.Need-mul-sheet-2 Inv-loop μ-loop
-mul-sheet-2 c = search needs
-
-slice-write-sheet : tie.Need-slice-write-sheet Inv-loop μ-loop
-slice-write-sheet c = search needs
-
-add-cell : tie.Need-add-cell Inv-loop μ-loop
-add-cell c = search needs
-
-loop-less : tie.Need-loop-less Inv-loop μ-loop
-loop-less c = search needs
-
-loop-again : tie.Need-loop-again Inv-loop μ-loop
-loop-again c =
-    let l = c .before .before .before in
-    let inside : l .loop .cell < length (now (l .before .before .before .before .before .args .sheet)) = omega (arith, c .before .before .loop-test .taken, l .loop .inv .long) in
-    ⊎-elim
-    (λ w. rw (w .2) (renewed-reached inside (sym (c .before .is-cell-reached .ensures) ∙ w .0 .taken) (l .loop .inv)))
-    (λ w. rw (w .1) (renewed-kept inside (sym (c .before .is-cell-reached .ensures) ∙ w .0 .left) (l .loop .inv)))
-    (c .if1 .came)
-
-same-length : tie.Need-same-length Inv-loop μ-loop
+same-length : tie.Need-same-length
 same-length c = search needs
 
-returns : tie.Need-returns Inv-loop μ-loop
-returns c = renewed-all (omega (arith, c .loop-test .left, c .before .loop .inv .long)) (c .before .loop .inv)
+returns : tie.Need-returns
+returns c =
+    let s = c .before .before .before .before .before .before .before in
+    rw (c .before .before .copy-run .ensures, c .before .before .before .before .if1 .taken) (cycle-copied (s .args .fresh .now) (s .args .sheet .now) (omega arith) (s .pre .0))
+
+at-requires : tie.Need-at-requires
+at-requires c κs = search needs
+
+approach-at-requires : tie.Need-approach-at-requires
+approach-at-requires c κs = search needs
+
+mul-copy-own : tie.Need-mul-copy-own
+mul-copy-own c = search needs
+
+add-copy-own : tie.Need-add-copy-own
+add-copy-own c = search needs
+
+copy-own-requires : tie.Need-copy-own-requires
+copy-own-requires c κs = search needs
+
+opposite-of-requires : tie.Need-opposite-of-requires
+opposite-of-requires c κs = search needs
+
+mul-across : tie.Need-mul-across
+mul-across c = search needs
+
+add-across : tie.Need-add-across
+add-across c = search needs
+
+is-across-requires : tie.Need-is-across-requires
+is-across-requires c κs = search needs
+
+add-copy-if : tie.Need-add-copy-if
+add-copy-if c = search needs
+
+add-copy-if-2 : tie.Need-add-copy-if-2
+add-copy-if-2 c = search needs
+
+copy-if-requires : tie.Need-copy-if-requires
+copy-if-requires c κs = search needs
+
+mul-pair : tie.Need-mul-pair
+mul-pair c = search needs
+
+add-pair : tie.Need-add-pair
+add-pair c = search needs
+
+is-own-pair-requires : tie.Need-is-own-pair-requires
+is-own-pair-requires c κs = search needs
+
+add-copy-if-3 : tie.Need-add-copy-if-3
+add-copy-if-3 c = search needs
+
+copy-if-requires-2 : tie.Need-copy-if-requires-2
+copy-if-requires-2 c κs = search needs
+
+copy-run-requires-2 : tie.Need-copy-run-requires-2
+copy-run-requires-2 c κs = search needs
+
+mul-sheet : tie.Need-mul-sheet
+mul-sheet c = search needs
+
+shared-slice-read-sheet : tie.Need-shared-slice-read-sheet
+shared-slice-read-sheet c = search needs
+
+mul-sheet-2 : tie.Need-mul-sheet-2
+mul-sheet-2 c = search needs
+
+slice-write-sheet : tie.Need-slice-write-sheet
+slice-write-sheet c = search needs
+
+same-length-2 : tie.Need-same-length-2
+same-length-2 c = simp length-set (search needs)
+
+returns-2 : tie.Need-returns-2
+returns-2 c =
+    let last = c .before .before .before in
+    let pair = last .before .before .before .before in
+    let own-pair = pair .before .before in
+    let across = own-pair .before .before .before in
+    let looks = across .before .before in
+    let lines = looks .before .before .before .before in
+    let from = lines .before .before in
+    let s = from .before .before .before .before .before in
+    rw (
+      last .copy-run2 .ensures,
+      pair .copy-if2 .ensures,
+      own-pair .is-own-pair .ensures,
+      across .copy-if .ensures,
+      looks .is-across .ensures,
+      looks .before .opposite-of .ensures .0,
+      lines .copy-own .ensures,
+      from .approach-at .ensures .0,
+      from .before .at .ensures,
+    )
+    (parts-copied (s .args .fresh .now) (s .args .sheet .now) (omega arith) (s .pre .0) (s .args .entry) (omega arith)
+    (rw (from .approach-at .ensures .0) at (from .approach-at .ensures .1)))
 
 pub renew-spec : {M : Type 1} → statement M
 renew-spec =
     tie.close
     (tie.spec
-    Inv-loop
-    μ-loop
+    copy-run-requires
+    same-length
+    returns
     at-requires
     approach-at-requires
-    loop-holds
-    is-cell-reached-requires
+    mul-copy-own
+    add-copy-own
+    copy-own-requires
+    opposite-of-requires
+    mul-across
+    add-across
+    is-across-requires
+    add-copy-if
+    add-copy-if-2
+    copy-if-requires
+    mul-pair
+    add-pair
+    is-own-pair-requires
+    add-copy-if-3
+    copy-if-requires-2
+    copy-run-requires-2
     mul-sheet
     shared-slice-read-sheet
     mul-sheet-2
     slice-write-sheet
-    add-cell
-    loop-less
-    loop-again
-    same-length
-    returns)
+    same-length-2
+    returns-2)

@@ -1,0 +1,109 @@
+use Rattle.entries.proofs.Laws.{range-ends, range-goes-on, range-stops, one-in-range, movements-alike, approaches-alike}
+use Rattle.entries.specs.Judging.{allInRange}
+use Rattle.kinds.specs.Kinds.{kindAt}
+use borrow.Author.Needs.{needs}
+use native.Mathlib.Omega.{arith}
+use Prim.Native.Nat.{_+_, _*_, _-_, _≤_}
+use mathlib.Core.Path.{_≡_, refl}
+use mathlib.Core.Bool.{true}
+use Rattle.entries.proofs.all_in_range.Statement.{statement}
+use Rattle.entries.proofs.all_in_range.Tie as tie
+
+abbrev Inv-loop : tie.InvT-loop
+Inv-loop entries movement₀ movement = (movement ≤ 12) × (allInRange entries 0 (5 * movement) ≡ true)
+
+abbrev μ-loop : tie.MeasureT-loop
+μ-loop entries movement₀ movement = 12 - movement
+
+abbrev Inv-loop2 : tie.InvT-loop2
+Inv-loop2 entries movement approach₀ approach = (approach ≤ 4) × (allInRange entries 0 (60 + 5 * approach) ≡ true)
+
+abbrev μ-loop2 : tie.MeasureT-loop2
+μ-loop2 entries movement approach₀ approach = 4 - approach
+
+loop-holds : tie.Need-loop-holds Inv-loop μ-loop Inv-loop2 μ-loop2
+unfolding allInRange
+loop-holds c = (omega arith, refl)
+
+mul-five-in-range : tie.Need-mul-five-in-range Inv-loop μ-loop Inv-loop2 μ-loop2
+mul-five-in-range c = search needs
+
+five-in-range-requires : tie.Need-five-in-range-requires Inv-loop μ-loop Inv-loop2 μ-loop2
+five-in-range-requires c κs = (c .before .before .before .pre, omega arith, omega arith, movements-alike _ (omega arith))
+
+returns : tie.Need-returns Inv-loop μ-loop Inv-loop2 μ-loop2
+returns c = range-stops _ _ _ _ _ (omega arith) (omega arith) (c .before .five-in-range .ensures) (c .if1 .taken)
+
+add-movement : tie.Need-add-movement Inv-loop μ-loop Inv-loop2 μ-loop2
+add-movement c = search needs
+
+loop-less : tie.Need-loop-less Inv-loop μ-loop Inv-loop2 μ-loop2
+loop-less c = search needs
+
+loop-again : tie.Need-loop-again Inv-loop μ-loop Inv-loop2 μ-loop2
+loop-again c = (omega arith, range-goes-on _ _ _ _ _ _ (c .before .before .before .loop .inv .1) (omega arith) (omega arith) (c .before .five-in-range .ensures) (c .if1 .left))
+
+loop2-holds : tie.Need-loop2-holds Inv-loop μ-loop Inv-loop2 μ-loop2
+loop2-holds c =
+    let whole : c .before .loop .movement ≡ 12 = omega arith in
+    (omega arith, rw whole at (c .before .loop .inv .1))
+
+mul-five-in-range-2 : tie.Need-mul-five-in-range-2 Inv-loop μ-loop Inv-loop2 μ-loop2
+mul-five-in-range-2 c = search needs
+
+add-five-in-range : tie.Need-add-five-in-range Inv-loop μ-loop Inv-loop2 μ-loop2
+add-five-in-range c = search needs
+
+five-in-range-requires-2 : tie.Need-five-in-range-requires-2 Inv-loop μ-loop Inv-loop2 μ-loop2
+five-in-range-requires-2 c κs = (c .before .before .before .before .before .pre, omega arith, omega arith, approaches-alike _ (omega arith))
+
+returns-2 : tie.Need-returns-2 Inv-loop μ-loop Inv-loop2 μ-loop2
+returns-2 c = range-stops _ _ _ _ _ (omega arith) (omega arith) (c .before .five-in-range2 .ensures) (c .if2 .taken)
+
+add-approach : tie.Need-add-approach Inv-loop μ-loop Inv-loop2 μ-loop2
+add-approach c = search needs
+
+loop2-less : tie.Need-loop2-less Inv-loop μ-loop Inv-loop2 μ-loop2
+loop2-less c = search needs
+
+loop2-again : tie.Need-loop2-again Inv-loop μ-loop Inv-loop2 μ-loop2
+loop2-again c = (omega arith, range-goes-on _ _ _ _ _ _ (c .before .before .before .loop2 .inv .1) (omega arith) (omega arith) (c .before .five-in-range2 .ensures) (c .if2 .left))
+
+shared-slice-read-holds : tie.Need-shared-slice-read-holds Inv-loop μ-loop Inv-loop2 μ-loop2
+shared-slice-read-holds c = search needs
+
+holds-requires : tie.Need-holds-requires Inv-loop μ-loop Inv-loop2 μ-loop2
+holds-requires c κs = search needs
+
+returns-3 : tie.Need-returns-3 Inv-loop μ-loop Inv-loop2 μ-loop2
+unfolding kindAt
+returns-3 c =
+    let whole : c .before .before .before .loop2 .approach ≡ 4 = omega arith in
+    range-ends _ _ 80 _ _ _ (rw whole at (c .before .before .before .loop2 .inv .1)) (omega arith) (omega arith) (one-in-range _ 80 80 refl refl (c .holds .ensures))
+
+pub all-in-range-spec : {M : Type 1} → statement M
+all-in-range-spec =
+    tie.close
+    (tie.spec
+    Inv-loop
+    μ-loop
+    Inv-loop2
+    μ-loop2
+    loop-holds
+    mul-five-in-range
+    five-in-range-requires
+    returns
+    add-movement
+    loop-less
+    loop-again
+    loop2-holds
+    mul-five-in-range-2
+    add-five-in-range
+    five-in-range-requires-2
+    returns-2
+    add-approach
+    loop2-less
+    loop2-again
+    shared-slice-read-holds
+    holds-requires
+    returns-3)

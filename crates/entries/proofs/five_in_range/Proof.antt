@@ -1,0 +1,83 @@
+use Rattle.entries.proofs.Laws.{range-goes-on, range-stops, one-in-range}
+use Rattle.entries.specs.Judging.{allInRange}
+use borrow.Author.Needs.{needs}
+use native.Mathlib.Omega.{arith}
+use Prim.Native.Nat.{_+_, _-_, _≤_}
+use mathlib.Core.Path.{_≡_, refl, sym}
+use mathlib.Core.Bool.{true}
+use Rattle.entries.proofs.five_in_range.Statement.{statement}
+use Rattle.entries.proofs.five_in_range.Tie as tie
+
+abbrev Inv-loop : tie.InvT-loop
+Inv-loop entries first like place₀ place = (place ≤ 5) × (allInRange entries first place ≡ true)
+
+abbrev μ-loop : tie.MeasureT-loop
+μ-loop entries first like place₀ place = 5 - place
+
+loop-holds : tie.Need-loop-holds Inv-loop μ-loop
+unfolding allInRange
+loop-holds c = (omega arith, refl)
+
+add-at : tie.Need-add-at Inv-loop μ-loop
+add-at c = search needs
+
+at-requires : tie.Need-at-requires Inv-loop μ-loop
+at-requires c κs = search needs
+
+add-holds : tie.Need-add-holds Inv-loop μ-loop
+add-holds c = search needs
+
+mul-holds : tie.Need-mul-holds Inv-loop μ-loop
+mul-holds c = search needs
+
+shared-slice-read-holds : tie.Need-shared-slice-read-holds Inv-loop μ-loop
+shared-slice-read-holds c = search needs
+
+holds-requires : tie.Need-holds-requires Inv-loop μ-loop
+holds-requires c κs = search needs
+
+returns : tie.Need-returns Inv-loop μ-loop
+returns c =
+    let d = c .before .before .before .before .before .before .before in
+    let place = c .before .before .before .before .before .loop .place in
+    range-stops _ _ _ (d .args .first + place) _ (omega arith) (omega arith)
+    (one-in-range _ _ (d .args .like + place) (d .pre .3 place (omega arith)) (c .before .before .before .at .ensures) (c .before .holds .ensures)) (c .if1 .taken)
+
+add-place : tie.Need-add-place Inv-loop μ-loop
+add-place c = search needs
+
+loop-less : tie.Need-loop-less Inv-loop μ-loop
+loop-less c = search needs
+
+loop-again : tie.Need-loop-again Inv-loop μ-loop
+loop-again c =
+    let d = c .before .before .before .before .before .before .before in
+    let place = c .before .before .before .before .before .loop .place in (
+      omega arith,
+      range-goes-on _ _ _ _ (d .args .first + place) _ (c .before .before .before .before .before .loop .inv .1) (omega arith) (omega arith)
+          (one-in-range _ _ (d .args .like + place) (d .pre .3 place (omega arith)) (c .before .before .before .at .ensures) (c .before .holds .ensures)) (c .if1 .left),
+    )
+
+returns-2 : tie.Need-returns-2 Inv-loop μ-loop
+returns-2 c =
+    let whole : c .before .loop .place ≡ 5 = omega arith in
+    sym (rw whole at (c .before .loop .inv .1))
+
+pub five-in-range-spec : {M : Type 1} → statement M
+five-in-range-spec =
+    tie.close
+    (tie.spec
+    Inv-loop
+    μ-loop
+    loop-holds
+    add-at
+    at-requires
+    add-holds
+    mul-holds
+    shared-slice-read-holds
+    holds-requires
+    returns
+    add-place
+    loop-less
+    loop-again
+    returns-2)
