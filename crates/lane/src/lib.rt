@@ -45,7 +45,7 @@ fn share_of_lefts(lefts: Vph, lane: Vph) -> u32
     share_out(10_000 * lefts.0, lane.0)
 }
 
-// Line 21, of a share of lefts and the oncoming share; of no lefts, or of nothing else, it needs no division without the latter.
+// Line 21, of a share of lefts and the oncoming share. With nothing oncoming, no lefts and all lefts have the same.
 pub fn equivalent_of(share: u32, oncoming: u32, cycle: u32) -> u32
     requires { ⌜ (share ≤ 10_000) × (oncoming ≤ 10_000) × (FairCycle cycle) ⌝ }
     ensures { λ r. ⌜ (r ≡ equivalent share oncoming cycle) × (1 ≤ r) × (r ≤ 1_560_000) ⌝ }
@@ -59,7 +59,7 @@ pub fn equivalent_of(share: u32, oncoming: u32, cycle: u32) -> u32
     units::divide_up(over, under) as u32
 }
 
-// The inner quotient of line 22.
+// The inner quotient of line 22, whose divisor is 10⁴·E where all turn left.
 fn parts_of(share: u32, equivalent: u32) -> u32
     requires { ⌜ (share ≤ 10_000) × (1 ≤ equivalent) × (equivalent ≤ 1_560_000) ⌝ }
     ensures { λ r. ⌜ (r ≡ 1_000_000_000_000 / (100_000_000 + share * equivalent - 10_000 * share)) × (r ≤ 100_000_000) ⌝ }

@@ -1,8 +1,8 @@
--- What lines 23–26 lean on: a single approach folds its lefts, option B never takes more off than it gave, no time reaches BLANK.
-use mathlib.Core.Path.{_≡_, refl, sym, _∙_}
+-- What lines 23–26 lean on: a single approach folds its lefts, option B never takes more off than it gave, a slower lane takes no less time, no time reaches BLANK.
+use mathlib.Core.Path.{_≡_, refl, sym}
 use mathlib.Core.Bool.{Bool, true, false, cond}
 use Prim.Native.Nat.{ℕ, _+_, _-_, _*_, _/_, _≤_, _<_}
-use native.Mathlib.Nat.{mul-le-mul, mul-le-mul-left, mul-left-comm, mul-assoc, mul-comm, mul-mul-mul-comm, sub-zero, le-refl, le-trans, le-of-eq, le-div-iff-mul-le, div-le-of-le-mul, div-mul-le-self, mul-div-mul-right, le-of-mul-le-mul-left, mul-right-comm, div-add-mod', mod-lt}
+use native.Mathlib.Nat.{mul-le-mul-left, mul-left-comm, mul-assoc, mul-comm, le-of-eq, le-div-iff-mul-le, div-le-of-le-mul, div-mul-le-self, le-of-mul-le-mul-left, mul-right-comm, div-add-mod', mod-lt}
 use native.Mathlib.Omega.{arith}
 use lib.Dec.{eqb}
 use borrow.Author.Tests.{eqb-false, ne-eqb, ltb-true}
@@ -14,7 +14,7 @@ use Rattle.kinds.specs.Kinds.{mostOf}
 use Rattle.procedure.specs.declared.Approach.{Approach}
 use Rattle.procedure.specs.Approach.{n, v, i, isShared}
 use Rattle.procedure.specs.Ranges.{Fair, FairCycle}
-use Rattle.procedure.specs.Lines.{BLANK, a, b, volume, vC, vST, turningT, fT, flowOf, flow, turningST, sST, sSL, interference, time, part, vLL, single, leftShare, sA, optionAOf, leftA, optionA, allowedA, allowedB, empty, line23, line24, line25, sB, throughB, optionB, lesser}
+use Rattle.procedure.specs.Lines.{BLANK, a, b, volume, vC, vST, fT, flowOf, flow, sST, sSL, interference, time, part, vLL, single, leftShare, sA, optionAOf, leftA, optionA, allowedA, allowedB, empty, line23, line24, line25, sB, throughB, optionB, lesser}
 use Rattle.blocks.specs.declared.Volumes.{Volumes}
 use Rattle.blocks.specs.declared.Flows.{Flows}
 use Rattle.blocks.specs.declared.Walking.{Walking}

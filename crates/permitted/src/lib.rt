@@ -76,7 +76,7 @@ pub fn meeting_of(s: Approach, o: Approach, w: Volumes) -> Meeting
     }
 }
 
-// The T or the L value of line 23, of its heaviest lane and the flow of that lane, which is seldom the faster one.
+// The T or the L value of line 23, of its heaviest lane and the flow of that lane. Where that lane is the slower one, as a rule, the group's own time is not needed.
 fn option_a_of(lane: Vph, mixed: Vph, volume: Vph, flow: Vph, interference: Ms, cycle: u32) -> Ms
     requires { ⌜ (lane .0 ≤ 3 * mostOf Volume) × (lane .0 ≤ 7_500 * mixed .0) × (0 < volume .0 → 0 < mixed .0) × (mixed .0 ≤ 144_000_000) × (volume .0 ≤ 3 * mostOf Volume) × (volume .0 ≤ 43 * flow .0) × (flow .0 ≤ 14_400) × (interference .0 ≤ 24_000) × (cycle ≤ mostOf Cycle) ⌝ }
     ensures { λ r. ⌜ r .0 ≡ part (volume .0) (optionAOf (lane .0) (mixed .0) (volume .0) (flow .0) (interference .0) cycle) ⌝ }
@@ -109,7 +109,7 @@ fn left_option_a(volume: Vph, lanes: u32, flow: Vph, oncoming: u32, cycle: u32) 
     option_a_of(lane, mixed, volume, flow, Ms(0), cycle)
 }
 
-// Line 23 of an approach that has volume.
+// Line 23 of an approach that has volume, worked out only where it is allowed.
 fn option_a(
     s: Approach,
     o: Approach,
@@ -173,7 +173,7 @@ fn left_b(lefts: Vph, flow: Vph, cycle: u32) -> Ms
     Ms(8_000 + clock::time_for(lefts, cycle, flow).0)
 }
 
-// Line 24 of an approach that has volume.
+// Line 24 of an approach that has volume, worked out only where it is allowed.
 fn option_b(allowed: bool, s: Approach, v: Volumes, f: Flows, w: Walking, cycle: u32) -> Ms
     requires { ⌜ (Fair s) × (VolumesOf s v) × (FlowsOf s f) × (WalkingOf s cycle w) × (FairCycle cycle) ⌝ }
     ensures { λ r. ⌜ r .0 ≡ cond allowed (optionB s cycle) BLANK ⌝ }

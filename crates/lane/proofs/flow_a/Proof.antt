@@ -1,7 +1,7 @@
 use Rattle.lane.proofs.Laws.{FlowARoom, flowA-room, flowA-none}
 use Rattle.procedure.specs.Lines.{flowA}
 use Prim.Native.Nat.{_/_}
-use mathlib.Core.Path.{_≡_, refl, sym, _∙_}
+use mathlib.Core.Path.{_≡_, sym}
 use native.Mathlib.Omega.{arith}
 use borrow.Author.Needs.{needs}
 use Rattle.lane.proofs.flow_a.Statement.{statement}
