@@ -25,7 +25,10 @@ use Rattle.sheet.proofs.Fits.{sheet-fits}
 use Rattle.amend.specs.Amend.{amendAnswer, amended, Change, amendedBy, entriesBy, reachedBy}
 use Rattle.amend.proofs.Laws.{amended-is-fresh, refused-stays, run-is-fresh, run-keeps}
 use Rattle.words.specs.Words.{AllBelow, over}
-use Rattle.study.specs.Study.{judgement, countOf, writeAnswer, fileOf, fileBytes, sitesIn, entriesUpTo}
+use Rattle.study.specs.Study.{judgement, countOf, siteEntriesAnswer, siteEntries, writeAnswer, fileOf, fileBytes, sitesIn, entriesUpTo}
+use Rattle.listing.specs.Listing.{listing, listAnswer}
+use Rattle.icu.specs.declared.IcuAnswer.{IcuAnswer}
+use Rattle.icu.specs.Told.{told}
 use Rattle.study.proofs.RoundTrip as round
 use Rattle.study.proofs.LongFile as long
 
@@ -88,7 +91,43 @@ pub outside-the-reach :
     (run : List Change) (d : List ℕ) (k : ℕ) → k < length d → reachedBy run d k ≡ false → getD (amendedBy run d) k 0 ≡ getD d k 0
 outside-the-reach = run-keeps
 
--- ANY TWO OUTCOMES AGREE. Each promise says of the answer, and of every lent number afterwards, that it equals a function of the
--- inputs; so whatever two outcomes it allows are the same.
-pub same-outcome : {A : Type 0} {promised : A} (one other : A) → one ≡ promised → other ≡ promised → one ≡ other
-same-outcome one other e f = e ∙ sym f
+-- ANY TWO OUTCOMES AGREE. Each promise says of the answer, and of every lent number afterwards, that it equals a function of
+-- the inputs: what a call allows is one answer and one list left behind.
+pub record Allowed {A B : Type 0} (answer : A) (after : B) (one : A) (left : B) : Type 0 where
+  pub answers : one ≡ answer
+  pub leaves : left ≡ after
+
+pub agree :
+    {A B : Type 0} {answer : A} {after : B} {one other : A} {left right : B}
+    → Allowed answer after one left → Allowed answer after other right → (one ≡ other) × (left ≡ right)
+agree p q = (p .answers ∙ sym (q .answers), p .leaves ∙ sym (q .leaves))
+
+-- what the promise of each call allows, in the words of src/lib.rt; by `agree`, any two outcomes of a call are the same
+abbrev pub fillAllows : List ℕ → List ℕ → IcuAnswer → List ℕ → Type 0
+fillAllows e d = Allowed (told (fillAnswer e d)) (filled e d)
+
+abbrev pub amendAllows : List ℕ → ℕ → ℕ → IcuAnswer → List ℕ → Type 0
+amendAllows d i v = Allowed (told (amendAnswer d i v)) (amended d i v)
+
+-- `icu_study_check` and `icu_study_count` are lent nothing that they could change
+abbrev pub checkAllows : List ℕ → IcuAnswer → Unit {0} → Type 0
+checkAllows file = Allowed (told (judgement file)) tt
+
+abbrev pub countAllows : List ℕ → ℕ → Unit {0} → Type 0
+countAllows file = Allowed (countOf file) tt
+
+abbrev pub siteAllows : List ℕ → ℕ → List ℕ → IcuAnswer → List ℕ → Type 0
+siteAllows file site old =
+    let answer = siteEntriesAnswer file site (length old) in
+    Allowed (told answer) (left-by answer (siteEntries file site) old)
+
+abbrev pub writeAllows : List ℕ → List ℕ → IcuAnswer → List ℕ → Type 0
+writeAllows entries old =
+    let answer = writeAnswer entries (length old) in
+    Allowed (told answer) (left-by answer (over old 0 (fileOf entries)) old)
+
+-- the listing and its length are both left behind
+abbrev pub listAllows : List ℕ → List ℕ → ℕ → IcuAnswer → List ℕ × ℕ → Type 0
+listAllows file old before =
+    let answer = listAnswer file (length old) in
+    Allowed (told answer) (left-by answer (over old 0 (listing file), length (listing file)) (old, before))

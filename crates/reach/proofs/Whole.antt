@@ -58,15 +58,10 @@ lines-at a c t k test at h = rw (run-at a c t k 1 29 at h (omega arith) (omega a
         rw line (and-true (test (suc t)))
     go false p = and-false (test (k - (80 + 28 * a)))
 
--- a run that is wanted or not, where it does not stand
-module _ (wanted : Bool) (from to k : ℕ) where
-  before-if : k < from → runIf wanted from to k ≡ false
-  unfolding runIf
-  before-if h = rw (before-run from to k h) (and-false wanted)
-
-  after-if : to ≤ k → runIf wanted from to k ≡ false
-  unfolding runIf
-  after-if h = rw (after-run from to k h) (and-false wanted)
+-- before a run that is wanted or not
+before-if : (wanted : Bool) (from to k : ℕ) → k < from → runIf wanted from to k ≡ false
+unfolding runIf
+before-if wanted from to k h = rw (before-run from to k h) (and-false wanted)
 
 -- the lines after a cell, where none of them stands
 module _ (before : ℕ) (test : ℕ → Bool) (k : ℕ) where
@@ -78,7 +73,7 @@ module _ (before : ℕ) (test : ℕ → Bool) (k : ℕ) where
   unfolding linesAfter
   after-lines h = rw (after-run (before + 1) (before + 29) k h, and-false (test (k - before)))
 
--- the lines that look across are 21 to 26
+-- those of the approach opposite are 21 to 26
 abbrev firstAcross : ℕ
 firstAcross = 21
 
