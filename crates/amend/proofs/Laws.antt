@@ -14,7 +14,7 @@ use Rattle.answers.specs.declared.Answer.{Answer}
 use Rattle.answers.specs.declared.Answer.the-variants.{Accepted, Refused}
 use Rattle.answers.proofs.Laws.{not-refused, both-accepted}
 use Rattle.entries.specs.Judging.{judged}
-use Rattle.entries.proofs.Laws.{accepted-count}
+use Rattle.entries.proofs.Laws.{accepted-count, neither}
 use Rattle.procedure.specs.Sheet.{sheet}
 use Rattle.sheet.specs.Fill.{sheetAnswer}
 use Rattle.sheet.proofs.Laws.{sheet-accepted}
@@ -104,10 +104,6 @@ cell-kept d i v k h Accepted accepted out =
       cell = merged-cell (reached i) (sheet (entriesWith d i v)) d long k h ∙ rw out;
     }
 cell-kept d i v k h (Refused why place) refused out = rw refused record { long = refl; cell = refl }
-
-neither : (x y : Bool) → (x || y) ≡ false → (x ≡ false) × (y ≡ false)
-neither true y e = absurd (let z : _≡_ {A = ℕ} 0 1 = cc in omega arith)
-neither false y e = (refl, e)
 
 -- on any sheet at all, over any run, no cell outside what the accepted amendments reach changes
 pub run-keeps : (run : List Change) (d : List ℕ) (k : ℕ) → k < length d → reachedBy run d k ≡ false → getD (amendedBy run d) k 0 ≡ getD d k 0

@@ -106,7 +106,7 @@ not-both : (a b : Bool) → (a && b) ≡ false → a ≡ true → b ≡ false
 not-both true b e h = e
 not-both false b e h = absurd (let z : _≡_ {A = ℕ} 0 1 = cc in omega arith)
 
-neither : (a b : Bool) → (a || b) ≡ false → (a ≡ false) × (b ≡ false)
+pub neither : (a b : Bool) → (a || b) ≡ false → (a ≡ false) × (b ≡ false)
 neither true b e = absurd (let z : _≡_ {A = ℕ} 0 1 = cc in omega arith)
 neither false b e = (refl, e)
 

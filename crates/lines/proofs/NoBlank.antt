@@ -3,13 +3,14 @@ use mathlib.Core.Path.{_≡_, refl}
 use mathlib.Core.Bool.{Bool, true, false, cond, _&&_}
 use mathlib.Core.List.{List, [], _∷_}
 use Prim.Native.Nat.{ℕ, zero, suc, _+_, _-_, _*_, _≤_, max, min}
-use native.Mathlib.Nat.{mul-le-mul, mul-le-mul-left, div-le-of-le-mul, le-trans}
+use native.Mathlib.Nat.{mul-le-mul, div-le-of-le-mul, le-trans}
 use native.Mathlib.Omega.{arith}
 use lib.Dec.{eqb, leb, ltb, lit≤}
 use lib.ListN.{getD}
 use borrow.Author.Tests.{eqb-true, eqb-false, leb-true}
 use Rattle.units.specs.Rounding.{up, up-most}
 use Rattle.units.proofs.Table.{both-true}
+use Rattle.clock.proofs.Laws.{walkers-share}
 use Rattle.kinds.specs.declared.Kind.the-variants.{Volume, LostTime, MinimumGreen, PedestrianTime}
 use Rattle.kinds.specs.declared.Group.{Group}
 use Rattle.kinds.specs.declared.Group.the-variants.{Left, Through, Right}
@@ -82,7 +83,7 @@ weighted-most :
 unfolding weightedOf
 weighted-most lost minimum crossing F reference h k l m =
     let beyond = max (max minimum reference) crossing - max minimum reference in
-    omega (arith, up-most beyond (beyond * F) 10_000 (mul-le-mul-left beyond m))
+    omega (arith, walkers-share beyond F m)
 
 -- a time that is weighted where it is no BLANK: still a time, and BLANK only where it was
 record Weighed (x cell : ℕ) : Type 0 where

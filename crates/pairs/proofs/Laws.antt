@@ -38,7 +38,7 @@ permitted-parts x y h = go (eqb x BLANK) (eqb y BLANK) h
     go false false p = (omega arith, omega arith)
 
 module _ (shared : Bool) (x y : List ℕ) (bx : Bounded x) (by : Bounded y) where
-  split-most : split x y ≤ 20_888_000
+  pub split-most : split x y ≤ 20_888_000
   unfolding split
   split-most = omega (arith, bx .line28, by .line28)
 

@@ -10,6 +10,7 @@ use lib.ListN.{length, getD, set, length-set}
 use lib.Seq.{getD-set-other, ext-getD}
 use borrow.Author.Tests.{eqb-true, eqb-false, eq-eqb, not-false}
 use Rattle.kinds.specs.Kinds.{kindAt}
+use Rattle.entries.proofs.Laws.{neither}
 use Rattle.procedure.specs.Approach.{readApproach, isShared}
 use Rattle.procedure.specs.Sheet.{cycle, linesAt, pairAt, sheet}
 use Rattle.reach.specs.Reach.{everywhere, ownLine, oppositeLine, ownPair, approachAt, opposite, reachedLine, reachedPair, reached, merged}
@@ -19,10 +20,6 @@ use Rattle.reach.proofs.Parts.{at-entry, at-line, at-pair, at-last}
 use Rattle.reach.proofs.Street.{street, pair-of}
 use Rattle.reach.proofs.Numbers.{numbers, fieldKind, place, place-below, read-is, read-own, read-other, of-entry}
 use Rattle.reach.proofs.Lines.{own-kept, opposed-kept, pair-number}
-
-neither : (x y : Bool) → (x || y) ≡ false → (x ≡ false) × (y ≡ false)
-neither true y h = absurd (let z : _≡_ {A = ℕ} 0 1 = cc in omega arith)
-neither false y h = (refl, h)
 
 module _ (e : List ℕ) (a f v : ℕ) (long : length e ≡ 81) (ha : a < 4) (hf : f < 20) where
   cycle-kept : cycle (set e (place a f) v) ≡ cycle e

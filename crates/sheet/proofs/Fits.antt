@@ -18,11 +18,11 @@ use Rattle.entries.proofs.Laws.{accepted-count, accepted-range}
 use Rattle.procedure.specs.Approach.{readApproach}
 use Rattle.procedure.specs.Ranges.{FairCycle}
 use Rattle.procedure.specs.Lines.{BLANK}
-use Rattle.procedure.specs.Pairs.{line, protected, permitted, split, pair, rightTotal, icuOf, letterOf}
+use Rattle.procedure.specs.Pairs.{line, protected, permitted, pair, rightTotal, icuOf, letterOf}
 use Rattle.procedure.specs.Sheet.{EB, WB, NB, SB, cycle, linesAt, pairAt, rightAt, lastOf, lastAt, sheet}
 use Rattle.procedure.proofs.Fair.{fair, fair-cycle}
 use Rattle.blocks.specs.Cells.{Bounded}
-use Rattle.pairs.proofs.Laws.{pick-few}
+use Rattle.pairs.proofs.Laws.{split-most, pick-few}
 use Rattle.lines.proofs.NoBlank.{Under, none, _&_, under-fits, chosen-most, timely-fits, bounded-lines, lines-fit}
 use Rattle.sheet.proofs.Laws.{Small, small}
 
@@ -61,10 +61,8 @@ module _ (shared : Bool) (x y : List ℕ) (bx : Bounded x) (by : Bounded y) wher
       chosen-most (eqb (line 26 x) BLANK || eqb (line 26 y) BLANK) (λ blank. lit≤ tt) (λ time. omega (arith, first, second))
 
   pair-most : Under mostPair (pair shared x y)
-  unfolding pair split
-  pair-most =
-      let both : split x y ≤ 20_888_000 = omega (arith, bx .line28, by .line28) in
-      protected-most & permitted-most & both & pick-few shared x y bx by & none
+  unfolding pair
+  pair-most = protected-most & permitted-most & split-most shared x y bx by & pick-few shared x y bx by & none
 
 -- ---- the last eight
 
