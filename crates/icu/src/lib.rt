@@ -20,10 +20,9 @@ pub struct IcuAnswer {
 fn tell(answer: Answer) -> IcuAnswer
     ensures { λ r. ⌜ r ≡ told answer ⌝ }
 {
-    IcuAnswer {
-        number: answer.number(),
-        place: answer.place(),
-    }
+    let number = answer.number();
+    let place = answer.place();
+    IcuAnswer { number, place }
 }
 
 // Fills a sheet of 209 numbers from 81 entries.
