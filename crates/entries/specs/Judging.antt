@@ -22,15 +22,6 @@ sizeAnswer e = refuse-if (not (eqb (length e) entryCount)) Size 0
 unfoldable pub outside : List ℕ → ℕ → Bool
 outside e i = not (inRange (kindAt i) (getD e i 0))
 
--- each of n entries from i on is in range
-unfoldable pub allInRange : List ℕ → ℕ → ℕ → Bool
-allInRange e i zero = true
-allInRange e i (suc n) = inRange (kindAt i) (getD e i 0) && allInRange e (suc i) n
-
--- the five entries from i on are of the kinds of those from k on
-abbrev pub Alike : ℕ → ℕ → Type 0
-Alike i k = (j : ℕ) → j < 5 → kindAt (i + j) ≡ kindAt (k + j)
-
 -- 4 SHARED: "shared lane with left lanes above 0 or through lanes 0"; place "lowest approach"
 unfoldable pub badlyShared : List ℕ → ℕ → Bool
 badlyShared e a = eqb (shared e a) 1 && (ltb 0 (lanes e (left a)) || eqb (lanes e (through a)) 0)
@@ -70,3 +61,14 @@ eachAnswer e why = lowest (faulty e why) why 0 (countOf why)
 -- "The first that applies, in this order, is answered."
 unfoldable pub judged : List ℕ → Answer
 judged e = sizeAnswer e then eachAnswer e Range then eachAnswer e Shared then eachAnswer e NoLane
+
+-- not of the table: what the code asks first, so that acceptance is told soon
+
+-- each of n entries from i on is in range
+unfoldable pub allInRange : List ℕ → ℕ → ℕ → Bool
+allInRange e i zero = true
+allInRange e i (suc n) = inRange (kindAt i) (getD e i 0) && allInRange e (suc i) n
+
+-- the five entries from i on are of the kinds of those from k on
+abbrev pub Alike : ℕ → ℕ → Type 0
+Alike i k = (j : ℕ) → j < 5 → kindAt (i + j) ≡ kindAt (k + j)
