@@ -11,35 +11,11 @@ use borrow.Author.Needs.{needs}
 use Rattle.amend.proofs.amend.Statement.{statement}
 use Rattle.amend.proofs.amend.Tie as tie
 
-check-sheet-requires : tie.Need-check-sheet-requires
-check-sheet-requires c κs = search needs
-
-enum-told : tie.Need-enum-told
-enum-told c = search needs
-
-enum-told-2 : tie.Need-enum-told-2
-enum-told-2 c = search needs
-
-same-length : tie.Need-same-length
-same-length c = search needs
-
 returns : tie.Need-returns
 unfolding amendAnswer amended
 returns c =
     let answer = handed-on _ (c .before .before .check-sheet .ensures) (c .enum-told2 .given .1) in
     (answer, kept _ _ (sym answer ∙ c .enum-told2 .given .1))
-
-check-entry-requires : tie.Need-check-entry-requires
-check-entry-requires c κs = search needs
-
-enum-told-3 : tie.Need-enum-told-3
-enum-told-3 c = search needs
-
-enum-told-4 : tie.Need-enum-told-4
-enum-told-4 c = search needs
-
-same-length-2 : tie.Need-same-length-2
-same-length-2 c = search needs
 
 returns-2 : tie.Need-returns-2
 unfolding amendAnswer amended
@@ -51,21 +27,6 @@ returns-2 c =
 entries-with-requires : tie.Need-entries-with-requires
 entries-with-requires c κs = (sheet-accepted _ (sym (c .before .before .before .before .before .before .check-sheet .ensures) ∙ c .before .before .before .before .enum-told .given .1), entry-accepted _ (sym (c .before .before .before .check-entry .ensures) ∙ c .before .enum-told3 .given .1))
 
-slice-aggregate-judge : tie.Need-slice-aggregate-judge
-slice-aggregate-judge c = search needs
-
-judge-requires : tie.Need-judge-requires
-judge-requires c κs = search needs
-
-enum-told-5 : tie.Need-enum-told-5
-enum-told-5 c = search needs
-
-enum-told-6 : tie.Need-enum-told-6
-enum-told-6 c = search needs
-
-same-length-3 : tie.Need-same-length-3
-same-length-3 c = search needs
-
 returns-3 : tie.Need-returns-3
 unfolding amendAnswer amended
 returns-3 c =
@@ -74,25 +35,13 @@ returns-3 c =
     (passed _ (c .before .before .before .before .before .before .before .before .check-entry .ensures) (c .before .before .before .before .before .before .enum-told3 .given .1) (c .before .before .judge .ensures ∙ ap judged (c .before .before .before .before .entries-with .ensures))) in
     (answer, kept _ _ (sym answer ∙ c .enum-told6 .given .1))
 
-slice-aggregate-write-fresh : tie.Need-slice-aggregate-write-fresh
-slice-aggregate-write-fresh c = search needs
-
-slice-aggregate-write-fresh-2 : tie.Need-slice-aggregate-write-fresh-2
-slice-aggregate-write-fresh-2 c = search needs
-
 write-fresh-requires : tie.Need-write-fresh-requires
 write-fresh-requires c κs = (sym (c .before .before .before .before .judge .ensures) ∙ c .before .before .enum-told5 .given .1, search needs)
-
-slice-aggregate-renew : tie.Need-slice-aggregate-renew
-slice-aggregate-renew c = search needs
 
 renew-requires : tie.Need-renew-requires
 renew-requires c κs =
     let s = c .before .before .before .before .before .before .before .before .before .before .before .before .before .before .before .before .before .before .before .before in
     (sheet-accepted (now (s .args .sheet)) (sym (c .before .before .before .before .before .before .before .before .before .before .before .before .before .before .before .before .before .check-sheet .ensures) ∙ c .before .before .before .before .before .before .before .before .before .before .before .before .before .before .before .enum-told .given .1), search needs, entry-accepted (s .args .entry) (sym (c .before .before .before .before .before .before .before .before .before .before .before .before .before .before .check-entry .ensures) ∙ c .before .before .before .before .before .before .before .before .before .before .before .before .enum-told3 .given .1))
-
-same-length-4 : tie.Need-same-length-4
-same-length-4 c = search needs
 
 returns-4 : tie.Need-returns-4
 unfolding amendAnswer amended
@@ -107,28 +56,7 @@ returns-4 c =
 pub amend-spec : {M : Type 1} → statement M
 amend-spec =
     tie.close
-    (tie.spec
-    check-sheet-requires
-    enum-told
-    enum-told-2
-    same-length
-    returns
-    check-entry-requires
-    enum-told-3
-    enum-told-4
-    same-length-2
-    returns-2
-    entries-with-requires
-    slice-aggregate-judge
-    judge-requires
-    enum-told-5
-    enum-told-6
-    same-length-3
-    returns-3
-    slice-aggregate-write-fresh
-    slice-aggregate-write-fresh-2
-    write-fresh-requires
-    slice-aggregate-renew
-    renew-requires
-    same-length-4
-    returns-4)
+    (tie.spec (search needs) (search needs) (search needs) (search needs) returns (search needs) (search needs)
+    (search needs) (search needs) returns-2 entries-with-requires (search needs) (search needs) (search needs)
+    (search needs) (search needs) returns-3 (search needs) (search needs) write-fresh-requires (search needs)
+    renew-requires (search needs) returns-4)

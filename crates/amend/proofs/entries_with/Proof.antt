@@ -13,20 +13,11 @@ use Rattle.amend.proofs.entries_with.Tie as tie
 part : (s : tie.Start) → length (take 81 (now (s .args .sheet))) ≡ 81
 part s = length-take-le 81 (now (s .args .sheet)) (omega (arith, s .pre))
 
-slice-aggregate-put : tie.Need-slice-aggregate-put
-slice-aggregate-put c = search needs
-
 slice-aggregate-put-2 : tie.Need-slice-aggregate-put-2
 slice-aggregate-put-2 c = omega (arith, part (c .before .before .before))
 
 put-requires : tie.Need-put-requires
 put-requires c κs = omega (arith, part (c .before .before .before))
-
-mul-entries : tie.Need-mul-entries
-mul-entries c = search needs
-
-array-write-entries : tie.Need-array-write-entries
-array-write-entries c = search needs
 
 returns : tie.Need-returns
 unfolding entriesWith
@@ -35,10 +26,4 @@ returns c = rw (c .before .put .ensures, over-whole (replicate 81 0) (take 81 (n
 pub entries-with-spec : {M : Type 1} → statement M
 entries-with-spec =
     tie.close
-    (tie.spec
-    slice-aggregate-put
-    slice-aggregate-put-2
-    put-requires
-    mul-entries
-    array-write-entries
-    returns)
+    (tie.spec (search needs) slice-aggregate-put-2 put-requires (search needs) (search needs) returns)

@@ -12,17 +12,8 @@ room s = volume-room (s .args .volume .0) (s .args .cycle) (s .pre .0) (s .pre .
 most : (s : tie.Start) → time (s .args .volume .0) (s .args .cycle) (s .args .flow .0) ≤ 1_800_000_000
 most s = time-most 7_500 (s .args .volume .0) (s .args .cycle) (s .args .flow .0) (s .pre .1) (s .pre .2)
 
-cast-divide-up : tie.Need-cast-divide-up
-cast-divide-up c = search needs
-
-mul-divide-up : tie.Need-mul-divide-up
-mul-divide-up c = search needs
-
 mul-divide-up-2 : tie.Need-mul-divide-up-2
 mul-divide-up-2 c = omega (arith, room (c .before))
-
-cast-divide-up-2 : tie.Need-cast-divide-up-2
-cast-divide-up-2 c = search needs
 
 divide-up-requires : tie.Need-divide-up-requires
 divide-up-requires c κs = omega (arith, room (c .before .before))
@@ -38,11 +29,4 @@ returns c = (c .divide-up .ensures, omega (arith, most (c .before .before .befor
 pub time-for-spec : {M : Type 1} → statement M
 time-for-spec =
     tie.close
-    (tie.spec
-    cast-divide-up
-    mul-divide-up
-    mul-divide-up-2
-    cast-divide-up-2
-    divide-up-requires
-    cast-t10
-    returns)
+    (tie.spec (search needs) (search needs) mul-divide-up-2 (search needs) divide-up-requires cast-t10 returns)

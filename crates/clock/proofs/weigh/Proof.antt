@@ -15,18 +15,6 @@ share d =
     let a = b .before in
     rw (d .divide-up .ensures) (walkers-share (b .larger2 .result .0 - a .larger .result .0) (a .before .args .frequency) (a .before .pre .3))
 
-larger-requires : tie.Need-larger-requires
-larger-requires c κs = search needs
-
-larger-requires-2 : tie.Need-larger-requires-2
-larger-requires-2 c κs = search needs
-
-sub-divide-up : tie.Need-sub-divide-up
-sub-divide-up c = search needs
-
-cast-divide-up : tie.Need-cast-divide-up
-cast-divide-up c = search needs
-
 mul-divide-up : tie.Need-mul-divide-up
 mul-divide-up c =
     let beyond = c .before .before .larger2 .result .0 - c .before .before .before .larger .result .0 in
@@ -36,9 +24,6 @@ divide-up-requires : tie.Need-divide-up-requires
 divide-up-requires c κs =
     let beyond = c .before .before .larger2 .result .0 - c .before .before .before .larger .result .0 in
     omega (arith, walkers-room beyond (c .before .before .before .before .args .frequency) (omega arith) (omega arith))
-
-add-t9 : tie.Need-add-t9
-add-t9 c = search needs
 
 cast-t13 : tie.Need-cast-t13
 cast-t13 c =
@@ -61,14 +46,5 @@ returns c =
 pub weigh-spec : {M : Type 1} → statement M
 weigh-spec =
     tie.close
-    (tie.spec
-    larger-requires
-    larger-requires-2
-    sub-divide-up
-    cast-divide-up
-    mul-divide-up
-    divide-up-requires
-    add-t9
-    cast-t13
-    add-t14
-    returns)
+    (tie.spec (search needs) (search needs) (search needs) (search needs) mul-divide-up divide-up-requires
+    (search needs) cast-t13 add-t14 returns)

@@ -18,21 +18,9 @@ returns : tie.Need-returns Inv-loop μ-loop
 unfolding decayNumber
 returns c = (rw (le-leb _ _ (c .if1 .taken)), search needs)
 
-series-requires : tie.Need-series-requires Inv-loop μ-loop
-series-requires c κs = search needs
-
 loop-holds : tie.Need-loop-holds Inv-loop μ-loop
 unfolding faded
 loop-holds c = search needs
-
-fade-requires : tie.Need-fade-requires Inv-loop μ-loop
-fade-requires c κs = search needs
-
-add-i : tie.Need-add-i Inv-loop μ-loop
-add-i c = search needs
-
-loop-less : tie.Need-loop-less Inv-loop μ-loop
-loop-less c = search needs
 
 loop-again : tie.Need-loop-again Inv-loop μ-loop
 unfolding faded
@@ -47,14 +35,5 @@ returns-2 c =
 pub decay-number-spec : {M : Type 1} → statement M
 decay-number-spec =
     tie.close
-    (tie.spec
-    Inv-loop
-    μ-loop
-    returns
-    series-requires
-    loop-holds
-    fade-requires
-    add-i
-    loop-less
-    loop-again
-    returns-2)
+    (tie.spec Inv-loop μ-loop returns (search needs) loop-holds (search needs) (search needs) (search needs)
+    loop-again returns-2)

@@ -12,11 +12,8 @@ mul-result c =
     let k : c .args .r ≤ 7200 = omega arith in
     omega (arith, mul-le-mul h k)
 
-div-result : tie.Need-div-result
-div-result c = search needs
-
 returns : tie.Need-returns
 returns c = (search needs, part-most (c .args .term) (c .args .r) (c .args .d) (omega arith))
 
 pub next-term-spec : {M : Type 1} → statement M
-next-term-spec = tie.close (tie.spec mul-result div-result returns)
+next-term-spec = tie.close (tie.spec mul-result (search needs) returns)

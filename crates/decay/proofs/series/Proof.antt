@@ -39,42 +39,6 @@ loop-holds : tie.Need-loop-holds Inv-loop μ-loop
 unfolding term turns
 loop-holds c = at (c .args .r) (c .pre) (omega arith) refl refl
 
-mul-next-term : tie.Need-mul-next-term Inv-loop μ-loop
-mul-next-term c = search needs
-
-add-next-term : tie.Need-add-next-term Inv-loop μ-loop
-add-next-term c = search needs
-
-mul-next-term-2 : tie.Need-mul-next-term-2 Inv-loop μ-loop
-mul-next-term-2 c = search needs
-
-next-term-requires : tie.Need-next-term-requires Inv-loop μ-loop
-next-term-requires c κs = search needs
-
-mul-next-term-3 : tie.Need-mul-next-term-3 Inv-loop μ-loop
-mul-next-term-3 c = search needs
-
-add-next-term-2 : tie.Need-add-next-term-2 Inv-loop μ-loop
-add-next-term-2 c = search needs
-
-mul-next-term-4 : tie.Need-mul-next-term-4 Inv-loop μ-loop
-mul-next-term-4 c = search needs
-
-next-term-requires-2 : tie.Need-next-term-requires-2 Inv-loop μ-loop
-next-term-requires-2 c κs = search needs
-
-sub-sum : tie.Need-sub-sum Inv-loop μ-loop
-sub-sum c = search needs
-
-add-sum : tie.Need-add-sum Inv-loop μ-loop
-add-sum c = search needs
-
-add-j : tie.Need-add-j Inv-loop μ-loop
-add-j c = search needs
-
-loop-less : tie.Need-loop-less Inv-loop μ-loop
-loop-less c = search needs
-
 loop-again : tie.Need-loop-again Inv-loop μ-loop
 loop-again c = step (c .before .before .before .before .pre) (c .before .before .before .loop .inv) (c .before .before .loop-test .taken) (c .before .next-term .ensures .0) (c .next-term2 .ensures .0)
 
@@ -86,21 +50,6 @@ returns c =
 pub series-spec : {M : Type 1} → statement M
 series-spec =
     tie.close
-    (tie.spec
-    Inv-loop
-    μ-loop
-    loop-holds
-    mul-next-term
-    add-next-term
-    mul-next-term-2
-    next-term-requires
-    mul-next-term-3
-    add-next-term-2
-    mul-next-term-4
-    next-term-requires-2
-    sub-sum
-    add-sum
-    add-j
-    loop-less
-    loop-again
-    returns)
+    (tie.spec Inv-loop μ-loop loop-holds (search needs) (search needs) (search needs) (search needs) (search needs)
+    (search needs) (search needs) (search needs) (search needs) (search needs) (search needs) (search needs)
+    loop-again returns)

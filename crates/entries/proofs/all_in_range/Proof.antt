@@ -25,20 +25,11 @@ loop-holds : tie.Need-loop-holds Inv-loop μ-loop Inv-loop2 μ-loop2
 unfolding allInRange
 loop-holds c = (omega arith, refl)
 
-mul-five-in-range : tie.Need-mul-five-in-range Inv-loop μ-loop Inv-loop2 μ-loop2
-mul-five-in-range c = search needs
-
 five-in-range-requires : tie.Need-five-in-range-requires Inv-loop μ-loop Inv-loop2 μ-loop2
 five-in-range-requires c κs = (c .before .before .before .pre, omega arith, omega arith, movements-alike _ (omega arith))
 
 returns : tie.Need-returns Inv-loop μ-loop Inv-loop2 μ-loop2
 returns c = range-stops _ _ _ _ _ (omega arith) (omega arith) (c .before .five-in-range .ensures) (c .if1 .taken)
-
-add-movement : tie.Need-add-movement Inv-loop μ-loop Inv-loop2 μ-loop2
-add-movement c = search needs
-
-loop-less : tie.Need-loop-less Inv-loop μ-loop Inv-loop2 μ-loop2
-loop-less c = search needs
 
 loop-again : tie.Need-loop-again Inv-loop μ-loop Inv-loop2 μ-loop2
 loop-again c = (omega arith, range-goes-on _ _ _ _ _ _ (c .before .before .before .loop .inv .1) (omega arith) (omega arith) (c .before .five-in-range .ensures) (c .if1 .left))
@@ -48,32 +39,14 @@ loop2-holds c =
     let whole : c .before .loop .movement ≡ 12 = omega arith in
     (omega arith, rw whole at (c .before .loop .inv .1))
 
-mul-five-in-range-2 : tie.Need-mul-five-in-range-2 Inv-loop μ-loop Inv-loop2 μ-loop2
-mul-five-in-range-2 c = search needs
-
-add-five-in-range : tie.Need-add-five-in-range Inv-loop μ-loop Inv-loop2 μ-loop2
-add-five-in-range c = search needs
-
 five-in-range-requires-2 : tie.Need-five-in-range-requires-2 Inv-loop μ-loop Inv-loop2 μ-loop2
 five-in-range-requires-2 c κs = (c .before .before .before .before .before .pre, omega arith, omega arith, approaches-alike _ (omega arith))
 
 returns-2 : tie.Need-returns-2 Inv-loop μ-loop Inv-loop2 μ-loop2
 returns-2 c = range-stops _ _ _ _ _ (omega arith) (omega arith) (c .before .five-in-range2 .ensures) (c .if2 .taken)
 
-add-approach : tie.Need-add-approach Inv-loop μ-loop Inv-loop2 μ-loop2
-add-approach c = search needs
-
-loop2-less : tie.Need-loop2-less Inv-loop μ-loop Inv-loop2 μ-loop2
-loop2-less c = search needs
-
 loop2-again : tie.Need-loop2-again Inv-loop μ-loop Inv-loop2 μ-loop2
 loop2-again c = (omega arith, range-goes-on _ _ _ _ _ _ (c .before .before .before .loop2 .inv .1) (omega arith) (omega arith) (c .before .five-in-range2 .ensures) (c .if2 .left))
-
-shared-slice-read-holds : tie.Need-shared-slice-read-holds Inv-loop μ-loop Inv-loop2 μ-loop2
-shared-slice-read-holds c = search needs
-
-holds-requires : tie.Need-holds-requires Inv-loop μ-loop Inv-loop2 μ-loop2
-holds-requires c κs = search needs
 
 returns-3 : tie.Need-returns-3 Inv-loop μ-loop Inv-loop2 μ-loop2
 unfolding kindAt
@@ -84,26 +57,6 @@ returns-3 c =
 pub all-in-range-spec : {M : Type 1} → statement M
 all-in-range-spec =
     tie.close
-    (tie.spec
-    Inv-loop
-    μ-loop
-    Inv-loop2
-    μ-loop2
-    loop-holds
-    mul-five-in-range
-    five-in-range-requires
-    returns
-    add-movement
-    loop-less
-    loop-again
-    loop2-holds
-    mul-five-in-range-2
-    add-five-in-range
-    five-in-range-requires-2
-    returns-2
-    add-approach
-    loop2-less
-    loop2-again
-    shared-slice-read-holds
-    holds-requires
-    returns-3)
+    (tie.spec Inv-loop μ-loop Inv-loop2 μ-loop2 loop-holds (search needs) five-in-range-requires returns
+    (search needs) (search needs) loop-again loop2-holds (search needs) (search needs) five-in-range-requires-2
+    returns-2 (search needs) (search needs) loop2-again (search needs) (search needs) returns-3)

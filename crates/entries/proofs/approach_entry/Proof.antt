@@ -4,21 +4,6 @@ use borrow.Author.Needs.{needs}
 use Rattle.entries.proofs.approach_entry.Statement.{statement}
 use Rattle.entries.proofs.approach_entry.Tie as tie
 
-mul-result : tie.Need-mul-result
-mul-result c = search needs
-
-add-result : tie.Need-add-result
-add-result c = search needs
-
-add-result-2 : tie.Need-add-result-2
-add-result-2 c = search needs
-
-mul-result-2 : tie.Need-mul-result-2
-mul-result-2 c = search needs
-
-shared-slice-read-result : tie.Need-shared-slice-read-result
-shared-slice-read-result c = search needs
-
 returns : tie.Need-returns
 unfolding approachEntry
 returns c = refl
@@ -26,4 +11,4 @@ returns c = refl
 pub approach-entry-spec : {M : Type 1} → statement M
 approach-entry-spec =
     tie.close
-    (tie.spec mul-result add-result add-result-2 mul-result-2 shared-slice-read-result returns)
+    (tie.spec (search needs) (search needs) (search needs) (search needs) (search needs) returns)

@@ -15,26 +15,14 @@ Inv-loop entries why count index₀ index = Searched (faulty entries why) why (c
 abbrev μ-loop : tie.MeasureT-loop
 μ-loop entries why count index₀ index = count - index
 
-count-of-requires : tie.Need-count-of-requires Inv-loop μ-loop
-count-of-requires c κs = search needs
-
 loop-holds : tie.Need-loop-holds Inv-loop μ-loop
 loop-holds c = search-starts _ _ _
-
-is-faulty-requires : tie.Need-is-faulty-requires Inv-loop μ-loop
-is-faulty-requires c κs = search needs
 
 cast-t7 : tie.Need-cast-t7 Inv-loop μ-loop
 cast-t7 c = omega (arith, count-most (c .before .before .before .before .before .before .args .why))
 
 returns : tie.Need-returns Inv-loop μ-loop
 returns c = search-finds _ _ _ _ (omega arith) (sym (c .before .is-faulty .ensures) ∙ c .if1 .taken) (c .before .before .before .loop .inv)
-
-add-index : tie.Need-add-index Inv-loop μ-loop
-add-index c = search needs
-
-loop-less : tie.Need-loop-less Inv-loop μ-loop
-loop-less c = search needs
 
 loop-again : tie.Need-loop-again Inv-loop μ-loop
 loop-again c = search-goes-on _ _ _ _ (omega arith) (sym (c .before .is-faulty .ensures) ∙ c .if1 .left) (c .before .before .before .loop .inv)
@@ -45,15 +33,5 @@ returns-2 c = search-ends _ _ _ _ (omega arith) (c .before .loop .inv)
 pub check-each-spec : {M : Type 1} → statement M
 check-each-spec =
     tie.close
-    (tie.spec
-    Inv-loop
-    μ-loop
-    count-of-requires
-    loop-holds
-    is-faulty-requires
-    cast-t7
-    returns
-    add-index
-    loop-less
-    loop-again
-    returns-2)
+    (tie.spec Inv-loop μ-loop (search needs) loop-holds (search needs) cast-t7 returns (search needs) (search needs)
+    loop-again returns-2)

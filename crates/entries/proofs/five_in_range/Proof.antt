@@ -18,36 +18,12 @@ loop-holds : tie.Need-loop-holds Inv-loop μ-loop
 unfolding allInRange
 loop-holds c = (omega arith, refl)
 
-add-at : tie.Need-add-at Inv-loop μ-loop
-add-at c = search needs
-
-at-requires : tie.Need-at-requires Inv-loop μ-loop
-at-requires c κs = search needs
-
-add-holds : tie.Need-add-holds Inv-loop μ-loop
-add-holds c = search needs
-
-mul-holds : tie.Need-mul-holds Inv-loop μ-loop
-mul-holds c = search needs
-
-shared-slice-read-holds : tie.Need-shared-slice-read-holds Inv-loop μ-loop
-shared-slice-read-holds c = search needs
-
-holds-requires : tie.Need-holds-requires Inv-loop μ-loop
-holds-requires c κs = search needs
-
 returns : tie.Need-returns Inv-loop μ-loop
 returns c =
     let d = c .before .before .before .before .before .before .before in
     let place = c .before .before .before .before .before .loop .place in
     range-stops _ _ _ (d .args .first + place) _ (omega arith) (omega arith)
     (one-in-range _ _ (d .args .like + place) (d .pre .3 place (omega arith)) (c .before .before .before .at .ensures) (c .before .holds .ensures)) (c .if1 .taken)
-
-add-place : tie.Need-add-place Inv-loop μ-loop
-add-place c = search needs
-
-loop-less : tie.Need-loop-less Inv-loop μ-loop
-loop-less c = search needs
 
 loop-again : tie.Need-loop-again Inv-loop μ-loop
 loop-again c =
@@ -66,18 +42,5 @@ returns-2 c =
 pub five-in-range-spec : {M : Type 1} → statement M
 five-in-range-spec =
     tie.close
-    (tie.spec
-    Inv-loop
-    μ-loop
-    loop-holds
-    add-at
-    at-requires
-    add-holds
-    mul-holds
-    shared-slice-read-holds
-    holds-requires
-    returns
-    add-place
-    loop-less
-    loop-again
-    returns-2)
+    (tie.spec Inv-loop μ-loop loop-holds (search needs) (search needs) (search needs) (search needs) (search needs)
+    (search needs) returns (search needs) (search needs) loop-again returns-2)

@@ -4,31 +4,13 @@ use borrow.Author.Needs.{needs}
 use Rattle.entries.proofs.is_badly_shared.Statement.{statement}
 use Rattle.entries.proofs.is_badly_shared.Tie as tie
 
-approach-entry-requires : tie.Need-approach-entry-requires
-approach-entry-requires c κs = search needs
-
 returns : tie.Need-returns
 unfolding badlyShared
 returns c = rw (← c .before .approach-entry .ensures, ne-eqb _ _ (c .if1 .taken))
 
-mul-movement-entry : tie.Need-mul-movement-entry
-mul-movement-entry c = search needs
-
-movement-entry-requires : tie.Need-movement-entry-requires
-movement-entry-requires c κs = search needs
-
 returns-2 : tie.Need-returns-2
 unfolding badlyShared
 returns-2 c = rw (← c .before .before .before .approach-entry .ensures, ← c .before .movement-entry .ensures, eq-eqb _ _ (c .before .before .if1 .left), lt-ltb _ _ (c .if2 .taken))
-
-mul-movement-entry-2 : tie.Need-mul-movement-entry-2
-mul-movement-entry-2 c = search needs
-
-add-movement-entry : tie.Need-add-movement-entry
-add-movement-entry c = search needs
-
-movement-entry-requires-2 : tie.Need-movement-entry-requires-2
-movement-entry-requires-2 c κs = search needs
 
 returns-3 : tie.Need-returns-3
 unfolding badlyShared
@@ -37,13 +19,5 @@ returns-3 c = rw (← c .before .before .before .before .approach-entry .ensures
 pub is-badly-shared-spec : {M : Type 1} → statement M
 is-badly-shared-spec =
     tie.close
-    (tie.spec
-    approach-entry-requires
-    returns
-    mul-movement-entry
-    movement-entry-requires
-    returns-2
-    mul-movement-entry-2
-    add-movement-entry
-    movement-entry-requires-2
-    returns-3)
+    (tie.spec (search needs) returns (search needs) (search needs) returns-2 (search needs) (search needs)
+    (search needs) returns-3)

@@ -6,27 +6,15 @@ use borrow.Author.Needs.{needs}
 use Rattle.entries.proofs.is_unserved.Statement.{statement}
 use Rattle.entries.proofs.is_unserved.Tie as tie
 
-movement-entry-requires : tie.Need-movement-entry-requires
-movement-entry-requires c κs = search needs
-
 returns : tie.Need-returns
 unfolding unserved
 returns c = rw (← c .before .movement-entry .ensures, c .if1 .taken)
-
-movement-entry-requires-2 : tie.Need-movement-entry-requires-2
-movement-entry-requires-2 c κs = search needs
 
 returns-2 : tie.Need-returns-2
 unfolding unserved
 returns-2 c =
     let h : 0 < c .before .before .before .movement-entry .result = omega (arith, c .before .before .if1 .left) in
     rw (← c .before .before .before .movement-entry .ensures, ← c .before .movement-entry2 .ensures, lt-ltb _ _ h, ne-eqb _ _ (c .if2 .taken))
-
-of-requires : tie.Need-of-requires
-of-requires c κs = search needs
-
-other-lanes-requires : tie.Need-other-lanes-requires
-other-lanes-requires c κs = search needs
 
 returns-3 : tie.Need-returns-3
 unfolding unserved
@@ -38,11 +26,4 @@ returns-3 c =
 pub is-unserved-spec : {M : Type 1} → statement M
 is-unserved-spec =
     tie.close
-    (tie.spec
-    movement-entry-requires
-    returns
-    movement-entry-requires-2
-    returns-2
-    of-requires
-    other-lanes-requires
-    returns-3)
+    (tie.spec (search needs) returns (search needs) returns-2 (search needs) (search needs) returns-3)

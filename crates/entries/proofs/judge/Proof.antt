@@ -6,27 +6,12 @@ use borrow.Author.Needs.{needs}
 use Rattle.entries.proofs.judge.Statement.{statement}
 use Rattle.entries.proofs.judge.Tie as tie
 
-check-size-requires : tie.Need-check-size-requires
-check-size-requires c κs = search needs
-
-enum-told : tie.Need-enum-told
-enum-told c = search needs
-
-enum-told-2 : tie.Need-enum-told-2
-enum-told-2 c = search needs
-
 returns : tie.Need-returns
 unfolding judged
 returns c = handed-on _ (c .before .before .check-size .ensures) (c .enum-told2 .given .1)
 
 check-ranges-requires : tie.Need-check-ranges-requires
 check-ranges-requires c κs = size-accepted _ (sym (c .before .before .check-size .ensures) ∙ c .enum-told .given .1)
-
-enum-told-3 : tie.Need-enum-told-3
-enum-told-3 c = search needs
-
-enum-told-4 : tie.Need-enum-told-4
-enum-told-4 c = search needs
 
 returns-2 : tie.Need-returns-2
 unfolding judged
@@ -39,12 +24,6 @@ check-each-requires : tie.Need-check-each-requires
 check-each-requires c κs =
     let s = c .before .before .before in
     size-accepted _ (sym (s .before .before .check-size .ensures) ∙ s .enum-told .given .1)
-
-enum-told-5 : tie.Need-enum-told-5
-enum-told-5 c = search needs
-
-enum-told-6 : tie.Need-enum-told-6
-enum-told-6 c = search needs
 
 returns-3 : tie.Need-returns-3
 unfolding judged
@@ -73,18 +52,6 @@ returns-4 c =
 pub judge-spec : {M : Type 1} → statement M
 judge-spec =
     tie.close
-    (tie.spec
-    check-size-requires
-    enum-told
-    enum-told-2
-    returns
-    check-ranges-requires
-    enum-told-3
-    enum-told-4
-    returns-2
-    check-each-requires
-    enum-told-5
-    enum-told-6
-    returns-3
-    check-each-requires-2
+    (tie.spec (search needs) (search needs) (search needs) returns check-ranges-requires (search needs)
+    (search needs) returns-2 check-each-requires (search needs) (search needs) returns-3 check-each-requires-2
     returns-4)

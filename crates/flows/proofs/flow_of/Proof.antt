@@ -18,15 +18,6 @@ returns : tie.Need-returns
 unfolding flowOf
 returns c = rw (eq-eqb _ _ (c .if1 .taken))
 
-lane-factor-requires : tie.Need-lane-factor-requires
-lane-factor-requires c κs = search needs
-
-cast-share : tie.Need-cast-share
-cast-share c = search needs
-
-cast-scaled : tie.Need-cast-scaled
-cast-scaled c = search needs
-
 mul-scaled : tie.Need-mul-scaled
 mul-scaled c = omega (arith, room (c .before))
 
@@ -46,13 +37,5 @@ returns-2 c = rw (ne-eqb _ _ (c .before .before .if1 .left), ← c .before .lane
 pub flow-of-spec : {M : Type 1} → statement M
 flow-of-spec =
     tie.close
-    (tie.spec
-    returns
-    lane-factor-requires
-    cast-share
-    cast-scaled
-    mul-scaled
-    mul-scaled-2
-    mul-scaled-3
-    cast-t8
+    (tie.spec returns (search needs) (search needs) (search needs) mul-scaled mul-scaled-2 mul-scaled-3 cast-t8
     returns-2)

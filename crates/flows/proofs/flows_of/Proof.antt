@@ -17,9 +17,6 @@ through : (d : tie.After-flow-of2) → d .flow-of2 .result .0 ≡ flow (d .befor
 unfolding flow
 through d = rw (d .flow-of2 .ensures, turning (d .before .before))
 
-turning-of-requires : tie.Need-turning-of-requires
-turning-of-requires c κs = search needs
-
 flow-of-requires : tie.Need-flow-of-requires
 flow-of-requires c κs = flow-ready _ (c .before .pre .0) Left _ (lit≤ tt)
 
@@ -49,11 +46,5 @@ returns c =
 pub flows-of-spec : {M : Type 1} → statement M
 flows-of-spec =
     tie.close
-    (tie.spec
-    turning-of-requires
-    flow-of-requires
-    flow-of-requires-2
-    flow-of-requires-3
-    straight-of-requires
-    lefts-of-requires
-    returns)
+    (tie.spec (search needs) flow-of-requires flow-of-requires-2 flow-of-requires-3 straight-of-requires
+    lefts-of-requires returns)

@@ -12,9 +12,6 @@ returns c =
     let none : b (s .args .s) ≡ 0 = sym (s .pre .1 .foldedleft) ∙ c .if1 .taken in
     s .pre .2 ∙ sym (straight-alike (s .args .s) none)
 
-straight-turning-of-requires : tie.Need-straight-turning-of-requires
-straight-turning-of-requires c κs = search needs
-
 flow-of-requires : tie.Need-flow-of-requires
 flow-of-requires c κs = flow-ready _ (c .before .before .before .pre .0) Through _ (c .straight-turning-of .ensures .1)
 
@@ -25,5 +22,4 @@ returns-2 c =
     rw (c .flow-of .ensures, c .before .straight-turning-of .ensures .0, w .straight, w .foldedright)
 
 pub straight-of-spec : {M : Type 1} → statement M
-straight-of-spec =
-    tie.close (tie.spec returns straight-turning-of-requires flow-of-requires returns-2)
+straight-of-spec = tie.close (tie.spec returns (search needs) flow-of-requires returns-2)

@@ -10,21 +10,6 @@ use Rattle.flows.proofs.straight_turning_of.Tie as tie
 returns : tie.Need-returns
 returns c = (rw (c .if1 .taken, straight-none), search needs)
 
-mul-result : tie.Need-mul-result
-mul-result c = search needs
-
-mul-result-2 : tie.Need-mul-result-2
-mul-result-2 c = search needs
-
-sub-result : tie.Need-sub-result
-sub-result c = search needs
-
-mul-result-3 : tie.Need-mul-result-3
-mul-result-3 c = search needs
-
-div-result : tie.Need-div-result
-div-result c = search needs
-
 returns-2 : tie.Need-returns-2
 unfolding turningST
 returns-2 c =
@@ -35,4 +20,4 @@ returns-2 c =
 pub straight-turning-of-spec : {M : Type 1} → statement M
 straight-turning-of-spec =
     tie.close
-    (tie.spec returns mul-result mul-result-2 sub-result mul-result-3 div-result returns-2)
+    (tie.spec returns (search needs) (search needs) (search needs) (search needs) (search needs) returns-2)

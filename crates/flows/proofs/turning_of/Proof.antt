@@ -8,40 +8,10 @@ use borrow.Author.Needs.{needs}
 use Rattle.flows.proofs.turning_of.Statement.{statement}
 use Rattle.flows.proofs.turning_of.Tie as tie
 
-straight-turning-of-requires : tie.Need-straight-turning-of-requires
-straight-turning-of-requires c κs = search needs
-
 returns : tie.Need-returns
 returns c =
     let alone = c .straight-turning-of .ensures in
     (rw (c .before .if1 .taken, turning-alike) (alone .0), alone .1)
-
-cast-v : tie.Need-cast-v
-cast-v c = search needs
-
-mul-rights : tie.Need-mul-rights
-mul-rights c = search needs
-
-cast-rights : tie.Need-cast-rights
-cast-rights c = search needs
-
-mul-rights-2 : tie.Need-mul-rights-2
-mul-rights-2 c = search needs
-
-sub-rights : tie.Need-sub-rights
-sub-rights c = search needs
-
-mul-lefts : tie.Need-mul-lefts
-mul-lefts c = search needs
-
-cast-lefts : tie.Need-cast-lefts
-cast-lefts c = search needs
-
-mul-lefts-2 : tie.Need-mul-lefts-2
-mul-lefts-2 c = search needs
-
-sub-lefts : tie.Need-sub-lefts
-sub-lefts c = search needs
 
 mul-result : tie.Need-mul-result
 mul-result c =
@@ -73,20 +43,6 @@ returns-2 c =
 pub turning-of-spec : {M : Type 1} → statement M
 turning-of-spec =
     tie.close
-    (tie.spec
-    straight-turning-of-requires
-    returns
-    cast-v
-    mul-rights
-    cast-rights
-    mul-rights-2
-    sub-rights
-    mul-lefts
-    cast-lefts
-    mul-lefts-2
-    sub-lefts
-    mul-result
-    mul-result-2
-    div-result
-    cast-result
+    (tie.spec (search needs) returns (search needs) (search needs) (search needs) (search needs) (search needs)
+    (search needs) (search needs) (search needs) (search needs) mul-result mul-result-2 div-result cast-result
     returns-2)

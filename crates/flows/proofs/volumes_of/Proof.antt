@@ -18,26 +18,11 @@ room c =
     let s = c .before .before .before .before in
     omega (arith, counted-most (s .args .s) (s .pre), c .before .choose .ensures .1, c .choose2 .ensures .1)
 
-choose-requires : tie.Need-choose-requires
-choose-requires c κs = search needs
-
-choose-requires-2 : tie.Need-choose-requires-2
-choose-requires-2 c κs = search needs
-
 add-t8 : tie.Need-add-t8
 add-t8 c = omega (arith, room (c .before .before))
 
 add-t9 : tie.Need-add-t9
 add-t9 c = omega (arith, room (c .before .before .before))
-
-choose-requires-3 : tie.Need-choose-requires-3
-choose-requires-3 c κs = search needs
-
-choose-requires-4 : tie.Need-choose-requires-4
-choose-requires-4 c κs = search needs
-
-sub-t9 : tie.Need-sub-t9
-sub-t9 c = search needs
 
 returns : tie.Need-returns
 unfolding a b volume vST
@@ -52,12 +37,4 @@ returns c =
 pub volumes-of-spec : {M : Type 1} → statement M
 volumes-of-spec =
     tie.close
-    (tie.spec
-    choose-requires
-    choose-requires-2
-    add-t8
-    add-t9
-    choose-requires-3
-    choose-requires-4
-    sub-t9
-    returns)
+    (tie.spec (search needs) (search needs) add-t8 add-t9 (search needs) (search needs) (search needs) returns)

@@ -4,17 +4,8 @@ use borrow.Author.Needs.{needs}
 use Rattle.icu.proofs.icu_amend.Statement.{statement}
 use Rattle.icu.proofs.icu_amend.Tie as tie
 
-amend-requires : tie.Need-amend-requires
-amend-requires c κs = search needs
-
-tell-requires : tie.Need-tell-requires
-tell-requires c κs = search needs
-
-same-length : tie.Need-same-length
-same-length c = search needs
-
 returns : tie.Need-returns
 returns c = (c .tell .ensures ∙ ap told (c .before .before .before .amend .ensures .0), c .before .before .before .amend .ensures .1)
 
 pub icu-amend-spec : {M : Type 1} → statement M
-icu-amend-spec = tie.close (tie.spec amend-requires tell-requires same-length returns)
+icu-amend-spec = tie.close (tie.spec (search needs) (search needs) (search needs) returns)

@@ -4,17 +4,8 @@ use borrow.Author.Needs.{needs}
 use Rattle.icu.proofs.icu_study_site.Statement.{statement}
 use Rattle.icu.proofs.icu_study_site.Tie as tie
 
-site-entries-requires : tie.Need-site-entries-requires
-site-entries-requires c κs = search needs
-
-tell-requires : tie.Need-tell-requires
-tell-requires c κs = search needs
-
-same-length : tie.Need-same-length
-same-length c = search needs
-
 returns : tie.Need-returns
 returns c = (c .tell .ensures ∙ ap told (c .before .before .before .site-entries .ensures .0), c .before .before .before .site-entries .ensures .1)
 
 pub icu-study-site-spec : {M : Type 1} → statement M
-icu-study-site-spec = tie.close (tie.spec site-entries-requires tell-requires same-length returns)
+icu-study-site-spec = tie.close (tie.spec (search needs) (search needs) (search needs) returns)

@@ -4,17 +4,8 @@ use borrow.Author.Needs.{needs}
 use Rattle.icu.proofs.icu_study_write.Statement.{statement}
 use Rattle.icu.proofs.icu_study_write.Tie as tie
 
-write-requires : tie.Need-write-requires
-write-requires c κs = search needs
-
-tell-requires : tie.Need-tell-requires
-tell-requires c κs = search needs
-
-same-length : tie.Need-same-length
-same-length c = search needs
-
 returns : tie.Need-returns
 returns c = (c .tell .ensures ∙ ap told (c .before .before .before .write .ensures .0), c .before .before .before .write .ensures .1)
 
 pub icu-study-write-spec : {M : Type 1} → statement M
-icu-study-write-spec = tie.close (tie.spec write-requires tell-requires same-length returns)
+icu-study-write-spec = tie.close (tie.spec (search needs) (search needs) (search needs) returns)

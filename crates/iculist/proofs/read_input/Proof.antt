@@ -18,35 +18,11 @@ abbrev μ-loop : tie.MeasureT-loop
 loop-holds : tie.Need-loop-holds Inv-loop μ-loop
 loop-holds c = (omega arith, refl)
 
-sub-read-once : tie.Need-sub-read-once Inv-loop μ-loop
-sub-read-once c = search needs
-
-part-read-once-start : tie.Need-part-read-once-start Inv-loop μ-loop
-part-read-once-start c = search needs
-
-part-read-once-end : tie.Need-part-read-once-end Inv-loop μ-loop
-part-read-once-end c = search needs
-
 read-once-requires : tie.Need-read-once-requires Inv-loop μ-loop
 read-once-requires c κs = tt
 
-enum-known-input : tie.Need-enum-known-input Inv-loop μ-loop
-enum-known-input c = search needs
-
-enum-told : tie.Need-enum-told Inv-loop μ-loop
-enum-told c = search needs
-
-same-length : tie.Need-same-length Inv-loop μ-loop
-same-length c = search needs
-
 returns : tie.Need-returns Inv-loop μ-loop
 returns c = rw (c .enum-told .given .1) tt
-
-same-length-2 : tie.Need-same-length-2 Inv-loop μ-loop
-same-length-2 c = search needs
-
-returns-2 : tie.Need-returns-2 Inv-loop μ-loop
-returns-2 c = search needs
 
 add-done : tie.Need-add-done Inv-loop μ-loop
 add-done c =
@@ -55,9 +31,6 @@ add-done c =
     let within = rw (c .before .before .input .given .1) at (read .read-once .ensures) in
     let kept = read .read-once .kept .0 in
     omega (arith, within, kept, length-take (length (loop .area) - loop .done) (drop (loop .done) (loop .area)), length-drop (loop .done) (loop .area))
-
-loop-less : tie.Need-loop-less Inv-loop μ-loop
-loop-less c = search needs
 
 loop-again : tie.Need-loop-again Inv-loop μ-loop
 loop-again c =
@@ -69,31 +42,9 @@ loop-again c =
     rw same
     (omega (arith, within, kept, length-take (length (loop .area) - loop .done) (drop (loop .done) (loop .area)), length-drop (loop .done) (loop .area)), loop .inv .1)
 
-same-length-3 : tie.Need-same-length-3 Inv-loop μ-loop
-same-length-3 c = search needs
-
-returns-3 : tie.Need-returns-3 Inv-loop μ-loop
-returns-3 c = search needs
-
 pub read-input-spec : {M : Type 1} → statement M
 read-input-spec =
     tie.close
-    (tie.spec
-    Inv-loop
-    μ-loop
-    loop-holds
-    sub-read-once
-    part-read-once-start
-    part-read-once-end
-    read-once-requires
-    enum-known-input
-    enum-told
-    same-length
-    returns
-    same-length-2
-    returns-2
-    add-done
-    loop-less
-    loop-again
-    same-length-3
-    returns-3)
+    (tie.spec Inv-loop μ-loop loop-holds (search needs) (search needs) (search needs) read-once-requires
+    (search needs) (search needs) (search needs) returns (search needs) (search needs) add-done (search needs)
+    loop-again (search needs) (search needs))

@@ -17,17 +17,11 @@ rest s = mul-le-mul {n₂ = 10_000} {m₂ = 10_000} (s .pre .0) (omega arith)
 most : (d : tie.After-divide-up) → d .divide-up .result ≤ 1_560_000
 most d = rw (d .divide-up .ensures) (up-most 1_560_000 _ _ (omega (arith, room (d .before .before))))
 
-sub-if1 : tie.Need-sub-if1
-sub-if1 c = search needs
-
 mul-if1 : tie.Need-mul-if1
 mul-if1 c = omega (arith, rest c)
 
 add-if1 : tie.Need-add-if1
 add-if1 c = omega (arith, rest c)
-
-mul-result : tie.Need-mul-result
-mul-result c = search needs
 
 returns : tie.Need-returns
 returns c =
@@ -35,12 +29,6 @@ returns c =
     let x = s .args in
     let is = equivalent-alike (x .share) (x .oncoming) (x .cycle) (s .pre .0) (c .if1 .taken) in
     (rw is, omega (arith, is, room s), omega (arith, is, room s))
-
-mul-over : tie.Need-mul-over
-mul-over c = search needs
-
-add-over : tie.Need-add-over
-add-over c = search needs
 
 mul-over-2 : tie.Need-mul-over-2
 mul-over-2 c = omega (arith, room (c .before))
@@ -53,12 +41,6 @@ sub-over c = omega (arith, room (c .before))
 
 mul-over-4 : tie.Need-mul-over-4
 mul-over-4 c = omega (arith, room (c .before))
-
-add-under : tie.Need-add-under
-add-under c = search needs
-
-mul-under : tie.Need-mul-under
-mul-under c = search needs
 
 mul-under-2 : tie.Need-mul-under-2
 mul-under-2 c = omega (arith, room (c .before))
@@ -82,23 +64,6 @@ returns-2 c = (c .divide-up .ensures, omega (arith, room (c .before .before), c 
 pub equivalent-of-spec : {M : Type 1} → statement M
 equivalent-of-spec =
     tie.close
-    (tie.spec
-    sub-if1
-    mul-if1
-    add-if1
-    mul-result
-    returns
-    mul-over
-    add-over
-    mul-over-2
-    mul-over-3
-    sub-over
-    mul-over-4
-    add-under
-    mul-under
-    mul-under-2
-    add-under-2
-    mul-under-3
-    divide-up-requires
-    cast-result
-    returns-2)
+    (tie.spec (search needs) mul-if1 add-if1 (search needs) returns (search needs) (search needs) mul-over-2
+    mul-over-3 sub-over mul-over-4 (search needs) (search needs) mul-under-2 add-under-2 mul-under-3
+    divide-up-requires cast-result returns-2)

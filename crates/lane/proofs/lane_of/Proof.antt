@@ -66,12 +66,6 @@ heaviest-lane-requires c κs =
     let s = c .before .before in
     (s .pre .1 .foldedleft-most, s .pre .1 .through-most, s .pre .0 .served Through (some c), s .pre .0 .group Through .lanes .most)
 
-share-of-lefts-requires : tie.Need-share-of-lefts-requires
-share-of-lefts-requires c κs = search needs
-
-equivalent-of-requires : tie.Need-equivalent-of-requires
-equivalent-of-requires c κs = search needs
-
 flow-a-requires : tie.Need-flow-a-requires
 flow-a-requires c κs =
     let s = c .before .before .before .before .before in (
@@ -100,10 +94,4 @@ returns-2 c =
 pub lane-of-spec : {M : Type 1} → statement M
 lane-of-spec =
     tie.close
-    (tie.spec
-    returns
-    heaviest-lane-requires
-    share-of-lefts-requires
-    equivalent-of-requires
-    flow-a-requires
-    returns-2)
+    (tie.spec returns heaviest-lane-requires (search needs) (search needs) flow-a-requires returns-2)

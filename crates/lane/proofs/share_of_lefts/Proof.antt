@@ -11,16 +11,10 @@ returns c =
     let x = c .before .before .args in
     (omega (arith, up-most 0 (10_000 * x .lefts .0) (x .lane .0) (omega arith)), omega arith)
 
-mul-share-out : tie.Need-mul-share-out
-mul-share-out c = search needs
-
-share-out-requires : tie.Need-share-out-requires
-share-out-requires c κs = search needs
-
 returns-2 : tie.Need-returns-2
 returns-2 c =
     let s = c .before .before .before .before in
     (c .share-out .ensures, rw (c .share-out .ensures) (share-most (s .args .lefts .0) (s .args .lane .0) (s .pre .0)))
 
 pub share-of-lefts-spec : {M : Type 1} → statement M
-share-of-lefts-spec = tie.close (tie.spec returns mul-share-out share-out-requires returns-2)
+share-of-lefts-spec = tie.close (tie.spec returns (search needs) (search needs) returns-2)

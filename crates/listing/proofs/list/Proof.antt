@@ -10,12 +10,6 @@ use borrow.Author.Needs.{needs}
 use Rattle.listing.proofs.list.Statement.{statement}
 use Rattle.listing.proofs.list.Tie as tie
 
-slice-aggregate-put-listing : tie.Need-slice-aggregate-put-listing
-slice-aggregate-put-listing c = search needs
-
-put-listing-requires : tie.Need-put-listing-requires
-put-listing-requires c κs = search needs
-
 returns : tie.Need-returns
 returns c =
     let put = c .before .before in
@@ -44,9 +38,6 @@ put-bytes-requires c κs =
 cast-written : tie.Need-cast-written
 cast-written c = omega (arith, length-listing (c .before .before .before .before .before .before .before .before .before .before .before .args .file .now))
 
-same-length : tie.Need-same-length
-same-length c = search needs
-
 returns-2 : tie.Need-returns-2
 returns-2 c =
     let put = c .before .before .before .before .before .before .before in
@@ -61,13 +52,5 @@ returns-2 c =
 pub list-spec : {M : Type 1} → statement M
 list-spec =
     tie.close
-    (tie.spec
-    slice-aggregate-put-listing
-    put-listing-requires
-    returns
-    array-share-prefix-area
-    slice-aggregate-put-bytes
-    put-bytes-requires
-    cast-written
-    same-length
-    returns-2)
+    (tie.spec (search needs) (search needs) returns array-share-prefix-area slice-aggregate-put-bytes
+    put-bytes-requires cast-written (search needs) returns-2)

@@ -6,17 +6,8 @@ use borrow.Author.Needs.{needs}
 use Rattle.listing.proofs.put_bad_file.Statement.{statement}
 use Rattle.listing.proofs.put_bad_file.Tie as tie
 
-slice-aggregate-put-bytes : tie.Need-slice-aggregate-put-bytes
-slice-aggregate-put-bytes c = search needs
-
-put-bytes-requires : tie.Need-put-bytes-requires
-put-bytes-requires c κs = search needs
-
 put-number-then-requires : tie.Need-put-number-then-requires
 put-number-then-requires c κs = number-fits _ _ _ _ (omega arith)
-
-same-length : tie.Need-same-length
-same-length c = search needs
 
 returns : tie.Need-returns
 unfolding fileLine
@@ -29,9 +20,4 @@ returns c =
 pub put-bad-file-spec : {M : Type 1} → statement M
 put-bad-file-spec =
     tie.close
-    (tie.spec
-    slice-aggregate-put-bytes
-    put-bytes-requires
-    put-number-then-requires
-    same-length
-    returns)
+    (tie.spec (search needs) (search needs) put-number-then-requires (search needs) returns)

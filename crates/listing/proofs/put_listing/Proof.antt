@@ -6,24 +6,6 @@ use borrow.Author.Needs.{needs}
 use Rattle.listing.proofs.put_listing.Statement.{statement}
 use Rattle.listing.proofs.put_listing.Tie as tie
 
-check-requires : tie.Need-check-requires
-check-requires c κs = search needs
-
-enum-told : tie.Need-enum-told
-enum-told c = search needs
-
-enum-told-2 : tie.Need-enum-told-2
-enum-told-2 c = search needs
-
-place-requires : tie.Need-place-requires
-place-requires c κs = search needs
-
-put-bad-file-requires : tie.Need-put-bad-file-requires
-put-bad-file-requires c κs = search needs
-
-same-length : tie.Need-same-length
-same-length c = search needs
-
 returns : tie.Need-returns
 returns c =
     let call = c .before .before in
@@ -34,9 +16,6 @@ returns c =
 put-sites-requires : tie.Need-put-sites-requires
 put-sites-requires c κs = (sym (c .before .before .before .check .ensures) ∙ c .before .enum-told .given .1, omega arith)
 
-same-length-2 : tie.Need-same-length-2
-same-length-2 c = search needs
-
 returns-2 : tie.Need-returns-2
 returns-2 c =
     let file = c .before .before .before .before .before .before .before .before .before .args .file .now in
@@ -45,14 +24,5 @@ returns-2 c =
 pub put-listing-spec : {M : Type 1} → statement M
 put-listing-spec =
     tie.close
-    (tie.spec
-    check-requires
-    enum-told
-    enum-told-2
-    place-requires
-    put-bad-file-requires
-    same-length
-    returns
-    put-sites-requires
-    same-length-2
-    returns-2)
+    (tie.spec (search needs) (search needs) (search needs) (search needs) (search needs) (search needs) returns
+    put-sites-requires (search needs) returns-2)

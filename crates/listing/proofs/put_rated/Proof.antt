@@ -6,29 +6,14 @@ use borrow.Author.Needs.{needs}
 use Rattle.listing.proofs.put_rated.Statement.{statement}
 use Rattle.listing.proofs.put_rated.Tie as tie
 
-letter-byte-requires : tie.Need-letter-byte-requires
-letter-byte-requires c κs = search needs
-
-phasing-byte-requires : tie.Need-phasing-byte-requires
-phasing-byte-requires c κs = search needs
-
-phasing-byte-requires-2 : tie.Need-phasing-byte-requires-2
-phasing-byte-requires-2 c κs = search needs
-
 put-number-then-requires : tie.Need-put-number-then-requires
 put-number-then-requires c κs = number-fits _ _ _ _ (omega arith)
 
 put-number-then-requires-2 : tie.Need-put-number-then-requires-2
 put-number-then-requires-2 c κs = number-fits _ _ _ _ (omega (arith, number-past _ _ (c .before .before .before .put-number-then .ensures)))
 
-slice-aggregate-put-bytes : tie.Need-slice-aggregate-put-bytes
-slice-aggregate-put-bytes c = search needs
-
 put-bytes-requires : tie.Need-put-bytes-requires
 put-bytes-requires c κs = omega (arith, number-past _ _ (c .before .before .before .before .before .before .before .before .put-number-then .ensures), number-past _ _ (c .before .before .before .before .put-number-then2 .ensures))
-
-same-length : tie.Need-same-length
-same-length c = search needs
 
 returns : tie.Need-returns
 returns c =
@@ -44,13 +29,5 @@ returns c =
 pub put-rated-spec : {M : Type 1} → statement M
 put-rated-spec =
     tie.close
-    (tie.spec
-    letter-byte-requires
-    phasing-byte-requires
-    phasing-byte-requires-2
-    put-number-then-requires
-    put-number-then-requires-2
-    slice-aggregate-put-bytes
-    put-bytes-requires
-    same-length
-    returns)
+    (tie.spec (search needs) (search needs) (search needs) put-number-then-requires put-number-then-requires-2
+    (search needs) put-bytes-requires (search needs) returns)

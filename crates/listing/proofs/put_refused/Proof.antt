@@ -6,9 +6,6 @@ use borrow.Author.Needs.{needs}
 use Rattle.listing.proofs.put_refused.Statement.{statement}
 use Rattle.listing.proofs.put_refused.Tie as tie
 
-number-requires : tie.Need-number-requires
-number-requires c κs = search needs
-
 put-number-then-requires : tie.Need-put-number-then-requires
 put-number-then-requires c κs = number-fits _ _ _ _ (omega arith)
 
@@ -22,9 +19,6 @@ put-number-then-requires-3 : tie.Need-put-number-then-requires-3
 put-number-then-requires-3 c κs =
     number-fits _ _ _ _
     (omega (arith, number-past _ _ (c .before .before .before .before .before .before .before .before .before .before .before .put-number-then .ensures), number-past _ _ (c .before .before .before .put-number-then2 .ensures)))
-
-same-length : tie.Need-same-length
-same-length c = search needs
 
 returns : tie.Need-returns
 returns c =
@@ -40,11 +34,5 @@ returns c =
 pub put-refused-spec : {M : Type 1} → statement M
 put-refused-spec =
     tie.close
-    (tie.spec
-    number-requires
-    put-number-then-requires
-    put-byte-requires
-    put-number-then-requires-2
-    put-number-then-requires-3
-    same-length
-    returns)
+    (tie.spec (search needs) put-number-then-requires put-byte-requires put-number-then-requires-2
+    put-number-then-requires-3 (search needs) returns)

@@ -70,16 +70,5 @@ returns c =
 pub put-sites-spec : {M : Type 1} → statement M
 put-sites-spec =
     tie.close
-    (tie.spec
-    Inv-loop
-    μ-loop
-    count-requires
-    loop-holds
-    add-put-line
-    site-cells-requires
-    put-line-requires
-    add-site
-    loop-less
-    loop-again
-    same-length
-    returns)
+    (tie.spec Inv-loop μ-loop count-requires loop-holds add-put-line site-cells-requires put-line-requires add-site
+    loop-less loop-again same-length returns)

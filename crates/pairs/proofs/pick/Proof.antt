@@ -5,15 +5,9 @@ use borrow.Author.Needs.{needs}
 use Rattle.pairs.proofs.pick.Statement.{statement}
 use Rattle.pairs.proofs.pick.Tie as tie
 
-pick-unprotected-requires : tie.Need-pick-unprotected-requires
-pick-unprotected-requires c κs = search needs
-
 returns : tie.Need-returns
 unfolding picked
 returns c = rw (lt-leb _ _ (c .before .if1 .taken)) (c .pick-unprotected .ensures)
-
-pick-unprotected-requires-2 : tie.Need-pick-unprotected-requires-2
-pick-unprotected-requires-2 c κs = search needs
 
 returns-2 : tie.Need-returns-2
 unfolding picked
@@ -24,6 +18,4 @@ unfolding picked
 returns-3 c = rw (le-leb _ _ (c .before .before .before .if1 .left), le-leb _ _ (c .if2 .left))
 
 pub pick-spec : {M : Type 1} → statement M
-pick-spec =
-    tie.close
-    (tie.spec pick-unprotected-requires returns pick-unprotected-requires-2 returns-2 returns-3)
+pick-spec = tie.close (tie.spec (search needs) returns (search needs) returns-2 returns-3)

@@ -8,12 +8,9 @@ returns : tie.Need-returns
 unfolding allowedA
 returns c = rw (lt-ltb _ _ (c .if1 .taken))
 
-is-single-requires : tie.Need-is-single-requires
-is-single-requires c κs = search needs
-
 returns-2 : tie.Need-returns-2
 unfolding allowedA
 returns-2 c = rw (le-ltb _ _ (c .before .if1 .left)) (c .is-single .ensures)
 
 pub is-a-allowed-spec : {M : Type 1} → statement M
-is-a-allowed-spec = tie.close (tie.spec returns is-single-requires returns-2)
+is-a-allowed-spec = tie.close (tie.spec returns (search needs) returns-2)

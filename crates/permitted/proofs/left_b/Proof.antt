@@ -6,14 +6,8 @@ use Rattle.permitted.proofs.left_b.Tie as tie
 returns : tie.Need-returns
 returns c = rw (eq-eqb _ _ (c .if1 .taken))
 
-time-for-requires : tie.Need-time-for-requires
-time-for-requires c κs = search needs
-
-add-t6 : tie.Need-add-t6
-add-t6 c = search needs
-
 returns-2 : tie.Need-returns-2
 returns-2 c = rw (ne-eqb _ _ (c .before .before .if1 .left), c .before .time-for .ensures .0)
 
 pub left-b-spec : {M : Type 1} → statement M
-left-b-spec = tie.close (tie.spec returns time-for-requires add-t6 returns-2)
+left-b-spec = tie.close (tie.spec returns (search needs) (search needs) returns-2)

@@ -22,9 +22,6 @@ share-out-requires c κs =
     let s = c .before .before in
     (omega (arith, s .pre .0, s .pre .2, s .pre .4), some c)
 
-equivalent-of-requires : tie.Need-equivalent-of-requires
-equivalent-of-requires c κs = search needs
-
 flow-a-requires : tie.Need-flow-a-requires
 flow-a-requires c κs =
     let s = c .before .before .before .before in
@@ -52,10 +49,4 @@ returns-2 c = rw (← c .before .before .before .share-out .ensures, ← c .befo
 pub left-option-a-spec : {M : Type 1} → statement M
 left-option-a-spec =
     tie.close
-    (tie.spec
-    returns
-    share-out-requires
-    equivalent-of-requires
-    flow-a-requires
-    option-a-of-requires
-    returns-2)
+    (tie.spec returns share-out-requires (search needs) flow-a-requires option-a-of-requires returns-2)

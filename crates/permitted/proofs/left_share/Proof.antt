@@ -17,12 +17,6 @@ alone d = rw (← d .before .is-single .ensures) (d .if1 .taken)
 folds : (d : tie.Then1) → (b (d .before .before .args .o) ≡ v (d .before .before .args .o) Left) × (0 < v (d .before .before .args .o) Left)
 folds d = single-folds (d .before .before .args .o) (alone d)
 
-is-single-requires : tie.Need-is-single-requires
-is-single-requires c κs = search needs
-
-mul-result : tie.Need-mul-result
-mul-result c = search needs
-
 div-result : tie.Need-div-result
 div-result c =
     let w = c .before .before .before .before .pre in
@@ -45,4 +39,4 @@ returns-2 c =
     (rw other, omega arith)
 
 pub left-share-spec : {M : Type 1} → statement M
-left-share-spec = tie.close (tie.spec is-single-requires mul-result div-result returns returns-2)
+left-share-spec = tie.close (tie.spec (search needs) (search needs) div-result returns returns-2)

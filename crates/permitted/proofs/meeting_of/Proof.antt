@@ -3,12 +3,6 @@ use borrow.Author.Needs.{needs}
 use Rattle.permitted.proofs.meeting_of.Statement.{statement}
 use Rattle.permitted.proofs.meeting_of.Tie as tie
 
-left-share-requires : tie.Need-left-share-requires
-left-share-requires c κs = search needs
-
-is-a-allowed-requires : tie.Need-is-a-allowed-requires
-is-a-allowed-requires c κs = search needs
-
 returns : tie.Need-returns
 unfolding allowedB
 returns c =
@@ -20,4 +14,4 @@ returns c =
     }
 
 pub meeting-of-spec : {M : Type 1} → statement M
-meeting-of-spec = tie.close (tie.spec left-share-requires is-a-allowed-requires returns)
+meeting-of-spec = tie.close (tie.spec (search needs) (search needs) returns)

@@ -43,9 +43,6 @@ left-option-a-requires c κs =
       s .pre .6,
     )
 
-larger-requires : tie.Need-larger-requires
-larger-requires c κs = search needs
-
 returns-2 : tie.Need-returns-2
 unfolding optionA leftA
 returns-2 c =
@@ -69,5 +66,4 @@ returns-2 c =
     )
 
 pub option-a-spec : {M : Type 1} → statement M
-option-a-spec =
-    tie.close (tie.spec returns option-a-of-requires left-option-a-requires larger-requires returns-2)
+option-a-spec = tie.close (tie.spec returns option-a-of-requires left-option-a-requires (search needs) returns-2)

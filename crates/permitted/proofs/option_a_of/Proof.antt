@@ -10,28 +10,10 @@ use Rattle.permitted.proofs.option_a_of.Tie as tie
 returns : tie.Need-returns
 returns c = rw (eq-eqb _ _ (c .if1 .taken))
 
-time-for-requires : tie.Need-time-for-requires
-time-for-requires c κs = search needs
-
-add-t10 : tie.Need-add-t10
-add-t10 c = search needs
-
-cast-if2 : tie.Need-cast-if2
-cast-if2 c = search needs
-
-cast-if2-2 : tie.Need-cast-if2-2
-cast-if2-2 c = search needs
-
 mul-if2 : tie.Need-mul-if2
 mul-if2 c =
     let s = c .before .before .before .before .before .before .before in
     omega (arith, mul-le-mul (s .pre .4) (s .pre .3))
-
-cast-if2-3 : tie.Need-cast-if2-3
-cast-if2-3 c = search needs
-
-cast-if2-4 : tie.Need-cast-if2-4
-cast-if2-4 c = search needs
 
 mul-if2-2 : tie.Need-mul-if2-2
 mul-if2-2 c =
@@ -48,12 +30,6 @@ returns-2 c =
     let shorter = time-least (x .volume .0) (x .lane .0) (x .flow .0) (x .mixed .0) (x .cycle) (s .pre .2 (omega arith)) (c .if2 .taken) in
     rw (ne-eqb _ _ some) (omega (arith, d .time-for .ensures .0, shorter))
 
-time-for-requires-2 : tie.Need-time-for-requires-2
-time-for-requires-2 c κs = search needs
-
-larger-requires : tie.Need-larger-requires
-larger-requires c κs = search needs
-
 returns-3 : tie.Need-returns-3
 unfolding optionAOf
 returns-3 c =
@@ -63,17 +39,5 @@ returns-3 c =
 pub option-a-of-spec : {M : Type 1} → statement M
 option-a-of-spec =
     tie.close
-    (tie.spec
-    returns
-    time-for-requires
-    add-t10
-    cast-if2
-    cast-if2-2
-    mul-if2
-    cast-if2-3
-    cast-if2-4
-    mul-if2-2
-    returns-2
-    time-for-requires-2
-    larger-requires
-    returns-3)
+    (tie.spec returns (search needs) (search needs) (search needs) (search needs) mul-if2 (search needs)
+    (search needs) mul-if2-2 returns-2 (search needs) (search needs) returns-3)

@@ -10,9 +10,6 @@ use Rattle.permitted.proofs.option_b.Tie as tie
 returns : tie.Need-returns
 returns c = rw (not-true (c .before .args .allowed) (c .if1 .taken))
 
-flow-b-requires : tie.Need-flow-b-requires
-flow-b-requires c κs = search needs
-
 through-b-requires : tie.Need-through-b-requires
 through-b-requires c κs =
     let s = c .before .before in
@@ -30,9 +27,6 @@ left-b-requires : tie.Need-left-b-requires
 left-b-requires c κs =
     let s = c .before .before .before in
     (s .pre .0 .group Left .counted .most, s .pre .2 .lefts-serve, s .pre .2 .lefts-most, s .pre .4 .most)
-
-larger-requires : tie.Need-larger-requires
-larger-requires c κs = search needs
 
 returns-2 : tie.Need-returns-2
 unfolding optionB
@@ -53,4 +47,5 @@ returns-2 c =
 
 pub option-b-spec : {M : Type 1} → statement M
 option-b-spec =
-    tie.close (tie.spec returns flow-b-requires through-b-requires left-b-requires larger-requires returns-2)
+    tie.close
+    (tie.spec returns (λ c. search needs) through-b-requires left-b-requires (λ c. search needs) returns-2)

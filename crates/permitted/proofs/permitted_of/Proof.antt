@@ -41,23 +41,11 @@ unfolding line26 weighted
 weighted-is d =
     rw (some (d .before .before .before .before), ← lesser-is (d .before), ← d .before .before .before .before .before .before .pre .3 .frequency) (d .weigh-if-allowed .ensures .0)
 
-is-empty-requires : tie.Need-is-empty-requires
-is-empty-requires c κs = search needs
-
 returns : tie.Need-returns
 unfolding line23 line24 line25 line26 lesser
 returns c =
     let none : empty (c .before .before .args .s) ≡ true = sym (none-is (c .before)) ∙ c .if1 .taken in
     record { a = rw none; b = rw none; lesser = rw none; weighted = rw none; weighted-timely = λ not-blank. omega arith }
-
-option-a-requires : tie.Need-option-a-requires
-option-a-requires c κs = search needs
-
-option-b-requires : tie.Need-option-b-requires
-option-b-requires c κs = search needs
-
-lesser-of-requires : tie.Need-lesser-of-requires
-lesser-of-requires c κs = search needs
 
 weigh-if-allowed-requires : tie.Need-weigh-if-allowed-requires
 weigh-if-allowed-requires c κs =
@@ -81,11 +69,5 @@ returns-2 c =
 pub permitted-of-spec : {M : Type 1} → statement M
 permitted-of-spec =
     tie.close
-    (tie.spec
-    is-empty-requires
-    returns
-    option-a-requires
-    option-b-requires
-    lesser-of-requires
-    weigh-if-allowed-requires
-    returns-2)
+    (tie.spec (λ c. search needs) returns (λ c. search needs) (λ c. search needs) (λ c. search needs)
+    weigh-if-allowed-requires returns-2)

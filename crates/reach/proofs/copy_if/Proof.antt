@@ -5,12 +5,6 @@ use borrow.Author.Needs.{needs}
 use Rattle.reach.proofs.copy_if.Statement.{statement}
 use Rattle.reach.proofs.copy_if.Tie as tie
 
-copy-run-requires : tie.Need-copy-run-requires
-copy-run-requires c κs = search needs
-
-same-length : tie.Need-same-length
-same-length c = search needs
-
 returns : tie.Need-returns
 unfolding runIf
 returns c = rw (c .before .before .before .before .if1 .taken) (c .before .before .copy-run .ensures)
@@ -20,4 +14,4 @@ unfolding runIf
 returns-2 c = rw (c .if1 .left) (sym (merged-none _ _ _ (c .before .before .before .pre .0) (λ j. refl)))
 
 pub copy-if-spec : {M : Type 1} → statement M
-copy-if-spec = tie.close (tie.spec copy-run-requires same-length returns returns-2)
+copy-if-spec = tie.close (tie.spec (search needs) (search needs) returns returns-2)

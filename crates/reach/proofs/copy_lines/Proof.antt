@@ -19,12 +19,6 @@ abbrev μ-loop : tie.MeasureT-loop
 loop-holds : tie.Need-loop-holds Inv-loop μ-loop
 loop-holds c = (none-copied (c .pre .0), c .pre .2)
 
-mul-cell : tie.Need-mul-cell Inv-loop μ-loop
-mul-cell c = search needs
-
-shared-slice-read-cell : tie.Need-shared-slice-read-cell Inv-loop μ-loop
-shared-slice-read-cell c = search needs
-
 add-cell : tie.Need-add-cell Inv-loop μ-loop
 add-cell c = omega (arith, next-line _ _ (c .before .loop-test .taken) (c .before .before .loop .inv .1))
 
@@ -40,12 +34,6 @@ mul-sheet-2 c = omega (arith, next-line _ _ (c .before .before .loop-test .taken
 slice-write-sheet : tie.Need-slice-write-sheet Inv-loop μ-loop
 slice-write-sheet c = omega (arith, next-line _ _ (c .before .before .loop-test .taken) (c .before .before .before .loop .inv .1))
 
-add-i : tie.Need-add-i Inv-loop μ-loop
-add-i c = search needs
-
-loop-less : tie.Need-loop-less Inv-loop μ-loop
-loop-less c = search needs
-
 loop-again : tie.Need-loop-again Inv-loop μ-loop
 loop-again c =
     let l = c .before .before .before .loop in
@@ -57,28 +45,11 @@ loop-again c =
       next .later,
     )
 
-same-length : tie.Need-same-length Inv-loop μ-loop
-same-length c = search needs
-
 returns : tie.Need-returns Inv-loop μ-loop
 returns c = all-copied (lines-over _ _ _ (c .loop-test .left)) (c .before .loop .inv .0)
 
 pub copy-lines-spec : {M : Type 1} → statement M
 copy-lines-spec =
     tie.close
-    (tie.spec
-    Inv-loop
-    μ-loop
-    loop-holds
-    mul-cell
-    shared-slice-read-cell
-    add-cell
-    mul-sheet
-    shared-slice-read-sheet
-    mul-sheet-2
-    slice-write-sheet
-    add-i
-    loop-less
-    loop-again
-    same-length
-    returns)
+    (tie.spec Inv-loop μ-loop loop-holds (search needs) (search needs) add-cell mul-sheet shared-slice-read-sheet
+    mul-sheet-2 slice-write-sheet (search needs) (search needs) loop-again (search needs) returns)

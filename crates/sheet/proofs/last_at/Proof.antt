@@ -38,12 +38,5 @@ returns c =
 pub last-at-spec : {M : Type 1} → statement M
 last-at-spec =
     tie.close
-    (tie.spec
-    right-at-requires
-    right-at-requires-2
-    right-at-requires-3
-    right-at-requires-4
-    combined-requires
-    shared-slice-read-last-of
-    last-of-requires
-    returns)
+    (tie.spec right-at-requires right-at-requires-2 right-at-requires-3 right-at-requires-4 combined-requires
+    shared-slice-read-last-of last-of-requires returns)

@@ -29,9 +29,4 @@ returns c = (c .lines-of .ensures .0 ∙ rw (c .before .before .before .read-app
 pub lines-at-spec : {M : Type 1} → statement M
 lines-at-spec =
     tie.close
-    (tie.spec
-    read-approach-requires
-    read-approach-requires-2
-    shared-slice-read-lines-of
-    lines-of-requires
-    returns)
+    (tie.spec read-approach-requires read-approach-requires-2 shared-slice-read-lines-of lines-of-requires returns)

@@ -8,18 +8,6 @@ use borrow.Author.Needs.{needs}
 use Rattle.sheet.proofs.put_all.Statement.{statement}
 use Rattle.sheet.proofs.put_all.Tie as tie
 
-put-requires : tie.Need-put-requires
-put-requires c κs = search needs
-
-put-lines-requires : tie.Need-put-lines-requires
-put-lines-requires c κs = search needs
-
-put-rest-requires : tie.Need-put-rest-requires
-put-rest-requires c κs = search needs
-
-same-length : tie.Need-same-length
-same-length c = search needs
-
 returns : tie.Need-returns
 returns c =
     let s = c .before .before .before .before .before .before .before .before .before .before .before .before .before .before in
@@ -41,5 +29,4 @@ returns c =
     ∙ over-whole d (e ++ lines ++ rest) (omega (arith, s .pre, length-append (e ++ lines) rest))
 
 pub put-all-spec : {M : Type 1} → statement M
-put-all-spec =
-    tie.close (tie.spec put-requires put-lines-requires put-rest-requires same-length returns)
+put-all-spec = tie.close (tie.spec (search needs) (search needs) (search needs) (search needs) returns)

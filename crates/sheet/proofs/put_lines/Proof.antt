@@ -8,21 +8,6 @@ use borrow.Author.Needs.{needs}
 use Rattle.sheet.proofs.put_lines.Statement.{statement}
 use Rattle.sheet.proofs.put_lines.Tie as tie
 
-put-lines-requires : tie.Need-put-lines-requires
-put-lines-requires c κs = search needs
-
-put-lines-requires-2 : tie.Need-put-lines-requires-2
-put-lines-requires-2 c κs = search needs
-
-put-lines-requires-3 : tie.Need-put-lines-requires-3
-put-lines-requires-3 c κs = search needs
-
-put-lines-requires-4 : tie.Need-put-lines-requires-4
-put-lines-requires-4 c κs = search needs
-
-same-length : tie.Need-same-length
-same-length c = search needs
-
 returns : tie.Need-returns
 returns c =
     let a = c .before .before .before .before .before .before .before .before .before .before .before .before .before .before .before .before .before .args in
@@ -39,10 +24,4 @@ returns c =
 pub put-lines-spec : {M : Type 1} → statement M
 put-lines-spec =
     tie.close
-    (tie.spec
-    put-lines-requires
-    put-lines-requires-2
-    put-lines-requires-3
-    put-lines-requires-4
-    same-length
-    returns)
+    (tie.spec (search needs) (search needs) (search needs) (search needs) (search needs) returns)

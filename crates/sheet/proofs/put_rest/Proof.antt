@@ -8,18 +8,6 @@ use borrow.Author.Needs.{needs}
 use Rattle.sheet.proofs.put_rest.Statement.{statement}
 use Rattle.sheet.proofs.put_rest.Tie as tie
 
-put-pair-requires : tie.Need-put-pair-requires
-put-pair-requires c κs = search needs
-
-put-pair-requires-2 : tie.Need-put-pair-requires-2
-put-pair-requires-2 c κs = search needs
-
-put-last-requires : tie.Need-put-last-requires
-put-last-requires c κs = search needs
-
-same-length : tie.Need-same-length
-same-length c = search needs
-
 returns : tie.Need-returns
 returns c =
     let a = c .before .before .before .before .before .before .before .before .before .before .before .before .before .args in
@@ -30,6 +18,4 @@ returns c =
     (omega (arith, c .before .before .before .before .before .before .before .before .before .before .before .before .before .pre))
 
 pub put-rest-spec : {M : Type 1} → statement M
-put-rest-spec =
-    tie.close
-    (tie.spec put-pair-requires put-pair-requires-2 put-last-requires same-length returns)
+put-rest-spec = tie.close (tie.spec (search needs) (search needs) (search needs) (search needs) returns)

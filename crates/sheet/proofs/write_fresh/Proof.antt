@@ -7,32 +7,14 @@ use borrow.Author.Needs.{needs}
 use Rattle.sheet.proofs.write_fresh.Statement.{statement}
 use Rattle.sheet.proofs.write_fresh.Tie as tie
 
-lines-at-requires : tie.Need-lines-at-requires
-lines-at-requires c κs = search needs
-
-lines-at-requires-2 : tie.Need-lines-at-requires-2
-lines-at-requires-2 c κs = search needs
-
-lines-at-requires-3 : tie.Need-lines-at-requires-3
-lines-at-requires-3 c κs = search needs
-
-lines-at-requires-4 : tie.Need-lines-at-requires-4
-lines-at-requires-4 c κs = search needs
-
 pair-at-requires : tie.Need-pair-at-requires
 pair-at-requires c κs = (accepted-count _ (c .before .before .before .before .before .before .pre .0), lit< tt, lit< tt, c .before .before .before .lines-at .ensures .0, c .before .before .lines-at2 .ensures .0, c .before .before .before .lines-at .ensures .1, c .before .before .lines-at2 .ensures .1)
 
 pair-at-requires-2 : tie.Need-pair-at-requires-2
 pair-at-requires-2 c κs = (accepted-count _ (c .before .before .before .before .before .before .before .pre .0), lit< tt, lit< tt, c .before .before .lines-at3 .ensures .0, c .before .lines-at4 .ensures .0, c .before .before .lines-at3 .ensures .1, c .before .lines-at4 .ensures .1)
 
-last-at-requires : tie.Need-last-at-requires
-last-at-requires c κs = search needs
-
 put-all-requires : tie.Need-put-all-requires
 put-all-requires c κs = (c .before .before .before .before .before .before .before .before .before .before .pre .1, accepted-count _ (c .before .before .before .before .before .before .before .before .before .before .pre .0))
-
-same-length : tie.Need-same-length
-same-length c = search needs
 
 returns : tie.Need-returns
 returns c =
@@ -45,14 +27,5 @@ returns c =
 pub write-fresh-spec : {M : Type 1} → statement M
 write-fresh-spec =
     tie.close
-    (tie.spec
-    lines-at-requires
-    lines-at-requires-2
-    lines-at-requires-3
-    lines-at-requires-4
-    pair-at-requires
-    pair-at-requires-2
-    last-at-requires
-    put-all-requires
-    same-length
-    returns)
+    (tie.spec (λ c. search needs) (λ c. search needs) (λ c. search needs) (λ c. search needs) pair-at-requires
+    pair-at-requires-2 (λ c. search needs) put-all-requires (λ c. search needs) returns)

@@ -8,9 +8,6 @@ use borrow.Author.Needs.{needs}
 use Rattle.split.proofs.largest_of.Statement.{statement}
 use Rattle.split.proofs.largest_of.Tie as tie
 
-larger-requires : tie.Need-larger-requires
-larger-requires c κs = search needs
-
 returns : tie.Need-returns
 returns c =
     let s = c .before .before .before in
@@ -22,20 +19,11 @@ returns c =
       omega (arith, c .larger .ensures, times .through-most, times .left, lefts),
     )
 
-part-time-requires : tie.Need-part-time-requires
-part-time-requires c κs = search needs
-
 part-time-requires-2 : tie.Need-part-time-requires-2
 part-time-requires-2 c κs =
     let s = c .before .before .before in
     let lefts = s .pre .0 .group Left .counted .most in
     (omega (arith, lefts), s .pre .2 .lefts-serve, s .pre .2 .lefts-most, omega arith, s .pre .5 .most)
-
-larger-requires-2 : tie.Need-larger-requires-2
-larger-requires-2 c κs = search needs
-
-larger-requires-3 : tie.Need-larger-requires-3
-larger-requires-3 c κs = search needs
 
 returns-2 : tie.Need-returns-2
 unfolding line27
@@ -62,11 +50,4 @@ returns-2 c =
 pub largest-of-spec : {M : Type 1} → statement M
 largest-of-spec =
     tie.close
-    (tie.spec
-    larger-requires
-    returns
-    part-time-requires
-    part-time-requires-2
-    larger-requires-2
-    larger-requires-3
-    returns-2)
+    (tie.spec (search needs) returns (search needs) part-time-requires-2 (search needs) (search needs) returns-2)

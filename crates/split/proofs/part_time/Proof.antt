@@ -8,12 +8,6 @@ use Rattle.split.proofs.part_time.Tie as tie
 returns : tie.Need-returns
 returns c = (rw (eq-eqb _ _ (c .if1 .taken)), omega arith)
 
-time-for-requires : tie.Need-time-for-requires
-time-for-requires c κs = search needs
-
-add-t7 : tie.Need-add-t7
-add-t7 c = search needs
-
 returns-2 : tie.Need-returns-2
 returns-2 c =
     let s = c .before .before .before .before .before in
@@ -23,4 +17,4 @@ returns-2 c =
     )
 
 pub part-time-spec : {M : Type 1} → statement M
-part-time-spec = tie.close (tie.spec returns time-for-requires add-t7 returns-2)
+part-time-spec = tie.close (tie.spec returns (search needs) (search needs) returns-2)

@@ -8,12 +8,6 @@ use borrow.Author.Needs.{needs}
 use Rattle.split.proofs.split_of.Statement.{statement}
 use Rattle.split.proofs.split_of.Tie as tie
 
-largest-of-requires : tie.Need-largest-of-requires
-largest-of-requires c κs = search needs
-
-add-if1 : tie.Need-add-if1
-add-if1 c = search needs
-
 returns : tie.Need-returns
 unfolding line28 empty
 returns c =
@@ -51,4 +45,4 @@ returns-2 c =
     }
 
 pub split-of-spec : {M : Type 1} → statement M
-split-of-spec = tie.close (tie.spec largest-of-requires add-if1 returns weigh-requires returns-2)
+split-of-spec = tie.close (tie.spec (λ c. search needs) (λ c. search needs) returns weigh-requires returns-2)

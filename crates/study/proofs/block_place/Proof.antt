@@ -8,4 +8,5 @@ returns c = omega arith
 
 pub block-place-spec : {M : Type 1} → statement M
 block-place-spec =
-    tie.close (tie.spec (λ c. omega arith) (λ c. omega arith) (λ c. omega arith) (λ c. omega arith) returns)
+    tie.close
+    (tie.spec (λ c. omega arith) (λ c. omega arith) (λ c. omega arith) (λ c. omega arith) returns)

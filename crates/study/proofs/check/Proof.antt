@@ -7,15 +7,6 @@ use borrow.Author.Needs.{needs}
 use Rattle.study.proofs.check.Statement.{statement}
 use Rattle.study.proofs.check.Tie as tie
 
-check-opening-requires : tie.Need-check-opening-requires
-check-opening-requires c κs = search needs
-
-enum-told : tie.Need-enum-told
-enum-told c = search needs
-
-enum-told-2 : tie.Need-enum-told-2
-enum-told-2 c = search needs
-
 returns : tie.Need-returns
 unfolding judgement
 returns c =
@@ -24,15 +15,6 @@ returns c =
     let k = sitesOf file in
     call .check-opening .ensures
     ∙ first-refused (openingField file) (countField file) (offsetFields file k 0 k) (ending file k) (sym (call .check-opening .ensures) ∙ c .enum-told2 .given .1)
-
-check-count-requires : tie.Need-check-count-requires
-check-count-requires c κs = search needs
-
-enum-told-3 : tie.Need-enum-told-3
-enum-told-3 c = search needs
-
-enum-told-4 : tie.Need-enum-told-4
-enum-told-4 c = search needs
 
 returns-2 : tie.Need-returns-2
 unfolding judgement
@@ -57,12 +39,6 @@ check-offsets-requires c κs =
     let told = c .before in
     let call = told .before .before in
     omega (arith, c .sites-of .ensures, count-accepted (call .before .before .before .before .before .args .file .now) (sym (call .check-count .ensures) ∙ told .enum-told3 .given .1) .1)
-
-enum-told-5 : tie.Need-enum-told-5
-enum-told-5 c = search needs
-
-enum-told-6 : tie.Need-enum-told-6
-enum-told-6 c = search needs
 
 returns-3 : tie.Need-returns-3
 unfolding judgement
@@ -111,19 +87,6 @@ returns-4 c =
 pub check-spec : {M : Type 1} → statement M
 check-spec =
     tie.close
-    (tie.spec
-    check-opening-requires
-    enum-told
-    enum-told-2
-    returns
-    check-count-requires
-    enum-told-3
-    enum-told-4
-    returns-2
-    sites-of-requires
-    check-offsets-requires
-    enum-told-5
-    enum-told-6
-    returns-3
-    check-ending-requires
+    (tie.spec (search needs) (search needs) (search needs) returns (search needs) (search needs) (search needs)
+    returns-2 sites-of-requires check-offsets-requires (search needs) (search needs) returns-3 check-ending-requires
     returns-4)

@@ -8,15 +8,6 @@ use borrow.Author.Needs.{needs}
 use Rattle.study.proofs.check_count.Statement.{statement}
 use Rattle.study.proofs.check_count.Tie as tie
 
-check-whole-requires : tie.Need-check-whole-requires
-check-whole-requires c κs = search needs
-
-enum-told : tie.Need-enum-told
-enum-told c = search needs
-
-enum-told-2 : tie.Need-enum-told-2
-enum-told-2 c = search needs
-
 returns : tie.Need-returns
 returns c =
     let call = c .before .before in
@@ -27,9 +18,6 @@ sites-of-requires : tie.Need-sites-of-requires
 sites-of-requires c κs =
     let call = c .before .before in
     field-fits (call .before .before .args .file .now) 4 (call .check-whole .ensures) (c .enum-told .given .1)
-
-refused-requires : tie.Need-refused-requires
-refused-requires c κs = search needs
 
 returns-2 : tie.Need-returns-2
 returns-2 c =
@@ -51,12 +39,5 @@ returns-3 c =
 pub check-count-spec : {M : Type 1} → statement M
 check-count-spec =
     tie.close
-    (tie.spec
-    check-whole-requires
-    enum-told
-    enum-told-2
-    returns
-    sites-of-requires
-    refused-requires
-    returns-2
+    (tie.spec (search needs) (search needs) (search needs) returns sites-of-requires (search needs) returns-2
     returns-3)

@@ -8,19 +8,10 @@ use borrow.Author.Needs.{needs}
 use Rattle.study.proofs.check_ending.Statement.{statement}
 use Rattle.study.proofs.check_ending.Tie as tie
 
-block-place-requires : tie.Need-block-place-requires
-block-place-requires c κs = search needs
-
-refused-requires : tie.Need-refused-requires
-refused-requires c κs = search needs
-
 returns : tie.Need-returns
 returns c =
     let place = c .before .before .block-place .ensures in
     c .refused .ensures ∙ simp (← place, lt-ltb _ _ (c .before .if1 .taken))
-
-refused-requires-2 : tie.Need-refused-requires-2
-refused-requires-2 c κs = search needs
 
 returns-2 : tie.Need-returns-2
 returns-2 c =
@@ -36,6 +27,4 @@ returns-3 c =
     simp (le-ltb (length (args .file .now)) (fileBytes (args .sites)) (omega arith), le-ltb (fileBytes (args .sites)) (length (args .file .now)) (omega arith))
 
 pub check-ending-spec : {M : Type 1} → statement M
-check-ending-spec =
-    tie.close
-    (tie.spec block-place-requires refused-requires returns refused-requires-2 returns-2 returns-3)
+check-ending-spec = tie.close (tie.spec (search needs) (search needs) returns (search needs) returns-2 returns-3)

@@ -10,21 +10,6 @@ use borrow.Author.Needs.{needs}
 use Rattle.study.proofs.check_offset.Statement.{statement}
 use Rattle.study.proofs.check_offset.Tie as tie
 
-mul-at : tie.Need-mul-at
-mul-at c = search needs
-
-add-at : tie.Need-add-at
-add-at c = search needs
-
-check-whole-requires : tie.Need-check-whole-requires
-check-whole-requires c κs = search needs
-
-enum-told : tie.Need-enum-told
-enum-told c = search needs
-
-enum-told-2 : tie.Need-enum-told-2
-enum-told-2 c = search needs
-
 returns : tie.Need-returns
 returns c =
     let call = c .before .before in
@@ -36,15 +21,6 @@ read-requires : tie.Need-read-requires
 read-requires c κs =
     let call = c .before .before in
     field-fits (call .before .before .args .file .now) _ (call .check-whole .ensures) (c .enum-told .given .1)
-
-cast-if1 : tie.Need-cast-if1
-cast-if1 c = search needs
-
-block-place-requires : tie.Need-block-place-requires
-block-place-requires c κs = search needs
-
-refused-requires : tie.Need-refused-requires
-refused-requires c κs = search needs
 
 returns-2 : tie.Need-returns-2
 returns-2 c =
@@ -68,16 +44,5 @@ returns-3 c =
 pub check-offset-spec : {M : Type 1} → statement M
 check-offset-spec =
     tie.close
-    (tie.spec
-    mul-at
-    add-at
-    check-whole-requires
-    enum-told
-    enum-told-2
-    returns
-    read-requires
-    cast-if1
-    block-place-requires
-    refused-requires
-    returns-2
-    returns-3)
+    (tie.spec (search needs) (search needs) (search needs) (search needs) (search needs) returns read-requires
+    (search needs) (search needs) (search needs) returns-2 returns-3)

@@ -19,12 +19,6 @@ loop-holds c = none-passed _ _
 check-offset-requires : tie.Need-check-offset-requires Inv-loop μ-loop
 check-offset-requires c κs = omega arith
 
-enum-told : tie.Need-enum-told Inv-loop μ-loop
-enum-told c = search needs
-
-enum-told-2 : tie.Need-enum-told-2 Inv-loop μ-loop
-enum-told-2 c = search needs
-
 returns : tie.Need-returns Inv-loop μ-loop
 returns c =
     let call = c .before .before in
@@ -52,15 +46,5 @@ returns-2 c =
 pub check-offsets-spec : {M : Type 1} → statement M
 check-offsets-spec =
     tie.close
-    (tie.spec
-    Inv-loop
-    μ-loop
-    loop-holds
-    check-offset-requires
-    enum-told
-    enum-told-2
-    returns
-    add-site
-    loop-less
-    loop-again
-    returns-2)
+    (tie.spec Inv-loop μ-loop loop-holds check-offset-requires (search needs) (search needs) returns add-site
+    loop-less loop-again returns-2)

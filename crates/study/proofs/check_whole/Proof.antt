@@ -5,12 +5,6 @@ use borrow.Author.Needs.{needs}
 use Rattle.study.proofs.check_whole.Statement.{statement}
 use Rattle.study.proofs.check_whole.Tie as tie
 
-add-if1 : tie.Need-add-if1
-add-if1 c = search needs
-
-refused-requires : tie.Need-refused-requires
-refused-requires c κs = search needs
-
 returns : tie.Need-returns
 returns c = c .refused .ensures ∙ simp (lt-ltb _ _ (c .before .if1 .taken))
 
@@ -18,4 +12,4 @@ returns-2 : tie.Need-returns-2
 returns-2 c = simp (le-ltb _ _ (c .if1 .left))
 
 pub check-whole-spec : {M : Type 1} → statement M
-check-whole-spec = tie.close (tie.spec add-if1 refused-requires returns returns-2)
+check-whole-spec = tie.close (tie.spec (search needs) (search needs) returns returns-2)

@@ -6,15 +6,6 @@ use borrow.Author.Needs.{needs}
 use Rattle.study.proofs.count.Statement.{statement}
 use Rattle.study.proofs.count.Tie as tie
 
-check-requires : tie.Need-check-requires
-check-requires c κs = search needs
-
-enum-told : tie.Need-enum-told
-enum-told c = search needs
-
-enum-told-2 : tie.Need-enum-told-2
-enum-told-2 c = search needs
-
 returns : tie.Need-returns
 returns c =
     let call = c .before .before in
@@ -32,5 +23,4 @@ returns-2 c =
     (simp is (c .read .ensures), omega (arith, c .read .ensures, accepted (call .before .before .args .file .now) is .few))
 
 pub count-spec : {M : Type 1} → statement M
-count-spec =
-    tie.close (tie.spec check-requires enum-told enum-told-2 returns read-requires returns-2)
+count-spec = tie.close (tie.spec (search needs) (search needs) (search needs) returns read-requires returns-2)

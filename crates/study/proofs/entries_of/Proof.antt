@@ -13,12 +13,6 @@ returns-2 c =
     let good = eq-eqb _ _ (c .before .if1 .left) in
     let bad = ne-eqb _ _ (c .if2 .taken) in (simp (good, bad), simp (good, bad))
 
-read-all-requires : tie.Need-read-all-requires
-read-all-requires c κs = search needs
-
-same-length : tie.Need-same-length
-same-length c = search needs
-
 returns-3 : tie.Need-returns-3
 returns-3 c =
     let call = c .before .before in
@@ -27,4 +21,4 @@ returns-3 c =
     (simp (block, room), simp (block, room) (call .read-all .ensures ∙ rw (call .before .before .if2 .left)))
 
 pub entries-of-spec : {M : Type 1} → statement M
-entries-of-spec = tie.close (tie.spec returns returns-2 read-all-requires same-length returns-3)
+entries-of-spec = tie.close (tie.spec returns returns-2 (search needs) (search needs) returns-3)

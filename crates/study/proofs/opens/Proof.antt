@@ -16,17 +16,11 @@ Inv-loop file expected i₀ i = (i ≤ 4) × (startsWith file opening ≡ starts
 abbrev μ-loop : tie.MeasureT-loop
 μ-loop file expected i₀ i = 4 - i
 
-opening-bytes-requires : tie.Need-opening-bytes-requires Inv-loop μ-loop
-opening-bytes-requires c κs = search needs
-
 loop-holds : tie.Need-loop-holds Inv-loop μ-loop
 loop-holds c = (omega arith, refl)
 
 shared-slice-read-if1 : tie.Need-shared-slice-read-if1 Inv-loop μ-loop
 shared-slice-read-if1 c = omega arith
-
-array-read-if1 : tie.Need-array-read-if1 Inv-loop μ-loop
-array-read-if1 c = search needs
 
 returns : tie.Need-returns Inv-loop μ-loop
 returns c =
@@ -59,15 +53,5 @@ returns-2 c =
 pub opens-spec : {M : Type 1} → statement M
 opens-spec =
     tie.close
-    (tie.spec
-    Inv-loop
-    μ-loop
-    opening-bytes-requires
-    loop-holds
-    shared-slice-read-if1
-    array-read-if1
-    returns
-    add-i
-    loop-less
-    loop-again
-    returns-2)
+    (tie.spec Inv-loop μ-loop (search needs) loop-holds shared-slice-read-if1 (search needs) returns add-i loop-less
+    loop-again returns-2)

@@ -67,17 +67,5 @@ returns c =
 pub put-offsets-spec : {M : Type 1} → statement M
 put-offsets-spec =
     tie.close
-    (tie.spec
-    Inv-loop
-    μ-loop
-    loop-holds
-    mul-write
-    add-write
-    block-place-requires
-    cast-write
-    write-requires
-    add-placed
-    loop-less
-    loop-again
-    same-length
-    returns)
+    (tie.spec Inv-loop μ-loop loop-holds mul-write add-write block-place-requires cast-write write-requires
+    add-placed loop-less loop-again same-length returns)

@@ -12,15 +12,6 @@ use borrow.Author.Needs.{needs}
 use Rattle.study.proofs.site_answer.Statement.{statement}
 use Rattle.study.proofs.site_answer.Tie as tie
 
-check-requires : tie.Need-check-requires
-check-requires c κs = search needs
-
-enum-told : tie.Need-enum-told
-enum-told c = search needs
-
-enum-told-2 : tie.Need-enum-told-2
-enum-told-2 c = search needs
-
 returns : tie.Need-returns
 returns c =
     let call = c .before .before in
@@ -31,9 +22,6 @@ sites-of-requires : tie.Need-sites-of-requires
 sites-of-requires c κs =
     let call = c .before .before in
     omega (arith, accepted (call .before .before .args .file .now) (sym (call .check .ensures) ∙ c .enum-told .given .1) .size)
-
-refused-requires : tie.Need-refused-requires
-refused-requires c κs = search needs
 
 returns-2 : tie.Need-returns-2
 returns-2 c =
@@ -50,12 +38,5 @@ returns-3 c =
 pub site-answer-spec : {M : Type 1} → statement M
 site-answer-spec =
     tie.close
-    (tie.spec
-    check-requires
-    enum-told
-    enum-told-2
-    returns
-    sites-of-requires
-    refused-requires
-    returns-2
+    (tie.spec (search needs) (search needs) (search needs) returns sites-of-requires (search needs) returns-2
     returns-3)

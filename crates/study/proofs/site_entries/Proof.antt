@@ -12,15 +12,6 @@ use Rattle.study.proofs.site_entries.Tie as tie
 returns : tie.Need-returns
 returns c = let bad = ne-eqb _ _ (c .if1 .taken) in (simp bad, simp bad)
 
-site-answer-requires : tie.Need-site-answer-requires
-site-answer-requires c κs = search needs
-
-enum-told : tie.Need-enum-told
-enum-told c = search needs
-
-enum-told-2 : tie.Need-enum-told-2
-enum-told-2 c = search needs
-
 returns-2 : tie.Need-returns-2
 returns-2 c =
     let call = c .before .before in
@@ -30,24 +21,6 @@ returns-2 c =
 
 site-place-requires : tie.Need-site-place-requires
 site-place-requires c κs = sym (c .before .before .site-answer .ensures) ∙ c .enum-told .given .1
-
-add-entries-of : tie.Need-add-entries-of
-add-entries-of c = search needs
-
-sub-entries-of : tie.Need-sub-entries-of
-sub-entries-of c = search needs
-
-part-entries-of-start : tie.Need-part-entries-of-start
-part-entries-of-start c = search needs
-
-part-entries-of-end : tie.Need-part-entries-of-end
-part-entries-of-end c = search needs
-
-entries-of-requires : tie.Need-entries-of-requires
-entries-of-requires c κs = search needs
-
-same-length : tie.Need-same-length
-same-length c = search needs
 
 returns-3 : tie.Need-returns-3
 returns-3 c =
@@ -68,17 +41,5 @@ returns-3 c =
 pub site-entries-spec : {M : Type 1} → statement M
 site-entries-spec =
     tie.close
-    (tie.spec
-    returns
-    site-answer-requires
-    enum-told
-    enum-told-2
-    returns-2
-    site-place-requires
-    add-entries-of
-    sub-entries-of
-    part-entries-of-start
-    part-entries-of-end
-    entries-of-requires
-    same-length
-    returns-3)
+    (tie.spec returns (search needs) (search needs) (search needs) returns-2 site-place-requires (search needs)
+    (search needs) (search needs) (search needs) (search needs) (search needs) returns-3)

@@ -9,20 +9,11 @@ use Rattle.study.proofs.write.Tie as tie
 returns : tie.Need-returns
 returns c = let bad = ne-eqb _ _ (c .if1 .taken) in (simp bad, simp bad)
 
-refused-requires : tie.Need-refused-requires
-refused-requires c κs = search needs
-
 returns-2 : tie.Need-returns-2
 returns-2 c =
     let sized = eq-eqb _ _ (c .before .before .if1 .left) in
     let many = lt-ltb _ _ (c .before .if2 .taken) in
     (c .refused .ensures ∙ simp (sized, many), simp (sized, many))
-
-block-place-requires : tie.Need-block-place-requires
-block-place-requires c κs = search needs
-
-refused-requires-2 : tie.Need-refused-requires-2
-refused-requires-2 c κs = search needs
 
 returns-3 : tie.Need-returns-3
 returns-3 c =
@@ -31,27 +22,6 @@ returns-3 c =
     let few = le-ltb _ _ (place .before .if2 .left) in
     let short = lt-ltb _ _ (rw (place .block-place .ensures) at (c .before .if3 .taken)) in
     (c .refused2 .ensures ∙ simp (sized, few, short), simp (sized, few, short))
-
-put-opening-requires : tie.Need-put-opening-requires
-put-opening-requires c κs = search needs
-
-cast-write : tie.Need-cast-write
-cast-write c = search needs
-
-write-requires : tie.Need-write-requires
-write-requires c κs = search needs
-
-put-offsets-requires : tie.Need-put-offsets-requires
-put-offsets-requires c κs = search needs
-
-block-place-requires-2 : tie.Need-block-place-requires-2
-block-place-requires-2 c κs = search needs
-
-write-all-requires : tie.Need-write-all-requires
-write-all-requires c κs = search needs
-
-same-length : tie.Need-same-length
-same-length c = search needs
 
 returns-4 : tie.Need-returns-4
 returns-4 c =
@@ -77,18 +47,5 @@ returns-4 c =
 pub write-spec : {M : Type 1} → statement M
 write-spec =
     tie.close
-    (tie.spec
-    returns
-    refused-requires
-    returns-2
-    block-place-requires
-    refused-requires-2
-    returns-3
-    put-opening-requires
-    cast-write
-    write-requires
-    put-offsets-requires
-    block-place-requires-2
-    write-all-requires
-    same-length
-    returns-4)
+    (tie.spec returns (search needs) returns-2 (search needs) (search needs) returns-3 (search needs) (search needs)
+    (search needs) (search needs) (search needs) (search needs) (search needs) returns-4)

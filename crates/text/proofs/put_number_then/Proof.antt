@@ -13,9 +13,6 @@ put-byte-requires c κs =
     let args = c .before .before .before .before .before .before .args in
     omega (arith, length-then (args .number) (args .byte))
 
-same-length : tie.Need-same-length
-same-length c = search needs
-
 returns : tie.Need-returns
 returns c =
     let call = c .before .before in
@@ -23,5 +20,4 @@ returns c =
     placed-then _ _ (before .before .before .before .pre) (before .put-number .ensures) (call .put-byte .ensures)
 
 pub put-number-then-spec : {M : Type 1} → statement M
-put-number-then-spec =
-    tie.close (tie.spec put-number-requires put-byte-requires same-length returns)
+put-number-then-spec = tie.close (tie.spec put-number-requires put-byte-requires (search needs) returns)

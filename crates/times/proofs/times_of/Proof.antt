@@ -4,22 +4,10 @@ use borrow.Author.Needs.{needs}
 use Rattle.times.proofs.times_of.Statement.{statement}
 use Rattle.times.proofs.times_of.Tie as tie
 
-reference-time-requires : tie.Need-reference-time-requires
-reference-time-requires c κs = search needs
-
-reference-time-requires-2 : tie.Need-reference-time-requires-2
-reference-time-requires-2 c κs = search needs
-
-reference-time-requires-3 : tie.Need-reference-time-requires-3
-reference-time-requires-3 c κs = search needs
-
 adjusted-time-requires : tie.Need-adjusted-time-requires
 adjusted-time-requires c κs =
     let fair = c .before .before .before .pre .0 .group Left in
     (fair .lost, fair .green, c .before .before .reference-time .ensures .1)
-
-weighted-time-requires : tie.Need-weighted-time-requires
-weighted-time-requires c κs = search needs
 
 adjusted-time-requires-2 : tie.Need-adjusted-time-requires-2
 adjusted-time-requires-2 c κs =
@@ -56,11 +44,5 @@ returns c =
 pub times-of-spec : {M : Type 1} → statement M
 times-of-spec =
     tie.close
-    (tie.spec
-    reference-time-requires
-    reference-time-requires-2
-    reference-time-requires-3
-    adjusted-time-requires
-    weighted-time-requires
-    adjusted-time-requires-2
-    returns)
+    (tie.spec (λ c. search needs) (λ c. search needs) (λ c. search needs) adjusted-time-requires (λ c. search needs)
+    adjusted-time-requires-2 returns)

@@ -10,11 +10,8 @@ weigh-requires c κs =
     let through = c .pre .0 .group Through in
     search needs
 
-with-volume-requires : tie.Need-with-volume-requires
-with-volume-requires c κs = search needs
-
 returns : tie.Need-returns
 returns c = (cc, search needs)
 
 pub weighted-time-spec : {M : Type 1} → statement M
-weighted-time-spec = tie.close (tie.spec weigh-requires with-volume-requires returns)
+weighted-time-spec = tie.close (tie.spec weigh-requires (search needs) returns)

@@ -13,12 +13,6 @@ most s =
     up-most (s .args .required .0) (s .args .required .0) (s .args .cycle)
     (omega (arith, mul-le-mul-left {m = 1} {n = s .args .cycle} (s .args .required .0) (omega arith), mul-one (s .args .required .0)))
 
-cast-divide-up : tie.Need-cast-divide-up
-cast-divide-up c = search needs
-
-divide-up-requires : tie.Need-divide-up-requires
-divide-up-requires c κs = search needs
-
 cast-result : tie.Need-cast-result
 cast-result c = omega (arith, most (c .before .before), c .divide-up .ensures)
 
@@ -27,4 +21,4 @@ unfolding icuOf
 returns c = c .divide-up .ensures
 
 pub icu-of-spec : {M : Type 1} → statement M
-icu-of-spec = tie.close (tie.spec cast-divide-up divide-up-requires cast-result returns)
+icu-of-spec = tie.close (tie.spec (search needs) (search needs) cast-result returns)

@@ -9,61 +9,9 @@ Inv-loop file count i₀ i = i ≤ count
 abbrev μ-loop : tie.MeasureT-loop
 μ-loop file count i₀ i = count - i
 
-loop-holds : tie.Need-loop-holds Inv-loop μ-loop
-loop-holds c = search needs
-
-add-print-title : tie.Need-add-print-title Inv-loop μ-loop
-add-print-title c = search needs
-
-print-title-requires : tie.Need-print-title-requires Inv-loop μ-loop
-print-title-requires c κs = search needs
-
-mul-at : tie.Need-mul-at Inv-loop μ-loop
-mul-at c = search needs
-
-add-end : tie.Need-add-end Inv-loop μ-loop
-add-end c = search needs
-
-sub-print-junction : tie.Need-sub-print-junction Inv-loop μ-loop
-sub-print-junction c = search needs
-
-part-print-junction-start : tie.Need-part-print-junction-start Inv-loop μ-loop
-part-print-junction-start c = search needs
-
-part-print-junction-end : tie.Need-part-print-junction-end Inv-loop μ-loop
-part-print-junction-end c = search needs
-
-print-junction-requires : tie.Need-print-junction-requires Inv-loop μ-loop
-print-junction-requires c κs = search needs
-
-add-i : tie.Need-add-i Inv-loop μ-loop
-add-i c = search needs
-
-loop-less : tie.Need-loop-less Inv-loop μ-loop
-loop-less c = search needs
-
-loop-again : tie.Need-loop-again Inv-loop μ-loop
-loop-again c = search needs
-
-returns : tie.Need-returns Inv-loop μ-loop
-returns c = search needs
-
 pub print-all-spec : {M : Type 1} → statement M
 print-all-spec =
     tie.close
-    (tie.spec
-    Inv-loop
-    μ-loop
-    loop-holds
-    add-print-title
-    print-title-requires
-    mul-at
-    add-end
-    sub-print-junction
-    part-print-junction-start
-    part-print-junction-end
-    print-junction-requires
-    add-i
-    loop-less
-    loop-again
-    returns)
+    (tie.spec Inv-loop μ-loop (search needs) (search needs) (search needs) (search needs) (search needs)
+    (search needs) (search needs) (search needs) (search needs) (search needs) (search needs) (search needs)
+    (search needs))

@@ -10,45 +10,8 @@ Inv-loop row i₀ i = i ≤ length row
 abbrev μ-loop : tie.MeasureT-loop
 μ-loop row i₀ i = length row - i
 
-loop-holds : tie.Need-loop-holds Inv-loop μ-loop
-loop-holds c = search needs
-
-mul-print-cell : tie.Need-mul-print-cell Inv-loop μ-loop
-mul-print-cell c = search needs
-
-shared-slice-read-print-cell : tie.Need-shared-slice-read-print-cell Inv-loop μ-loop
-shared-slice-read-print-cell c = search needs
-
-print-cell-requires : tie.Need-print-cell-requires Inv-loop μ-loop
-print-cell-requires c κs = search needs
-
-add-i : tie.Need-add-i Inv-loop μ-loop
-add-i c = search needs
-
-loop-less : tie.Need-loop-less Inv-loop μ-loop
-loop-less c = search needs
-
-loop-again : tie.Need-loop-again Inv-loop μ-loop
-loop-again c = search needs
-
-end-line-requires : tie.Need-end-line-requires Inv-loop μ-loop
-end-line-requires c κs = search needs
-
-returns : tie.Need-returns Inv-loop μ-loop
-returns c = search needs
-
 pub print-row-spec : {M : Type 1} → statement M
 print-row-spec =
     tie.close
-    (tie.spec
-    Inv-loop
-    μ-loop
-    loop-holds
-    mul-print-cell
-    shared-slice-read-print-cell
-    print-cell-requires
-    add-i
-    loop-less
-    loop-again
-    end-line-requires
-    returns)
+    (tie.spec Inv-loop μ-loop (search needs) (search needs) (search needs) (search needs) (search needs)
+    (search needs) (search needs) (search needs) (search needs))

@@ -8,12 +8,9 @@ returns : tie.Need-returns
 unfolding interference
 returns c = (rw (eq-eqb _ _ (c .if1 .taken)), search needs)
 
-walkers-part-requires : tie.Need-walkers-part-requires
-walkers-part-requires c κs = search needs
-
 returns-2 : tie.Need-returns-2
 unfolding interference
 returns-2 c = (rw (ne-eqb _ _ (c .before .if1 .left)) (c .walkers-part .ensures .0), c .walkers-part .ensures .1)
 
 pub right-interference-spec : {M : Type 1} → statement M
-right-interference-spec = tie.close (tie.spec returns walkers-part-requires returns-2)
+right-interference-spec = tie.close (tie.spec returns (search needs) returns-2)

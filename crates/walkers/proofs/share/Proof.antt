@@ -12,17 +12,8 @@ within s = mul-le-mul (s .pre .0) (s .pre .1)
 most : (s : tie.Start) → up (s .args .part .0 * s .args .some .0) (s .args .volume .0) ≤ 24_000
 most s = up-most 24_000 _ _ (within s)
 
-cast-divide-up : tie.Need-cast-divide-up
-cast-divide-up c = search needs
-
-cast-divide-up-2 : tie.Need-cast-divide-up-2
-cast-divide-up-2 c = search needs
-
 mul-divide-up : tie.Need-mul-divide-up
 mul-divide-up c = omega (arith, within (c .before .before))
-
-cast-divide-up-3 : tie.Need-cast-divide-up-3
-cast-divide-up-3 c = search needs
 
 divide-up-requires : tie.Need-divide-up-requires
 divide-up-requires c κs = omega (arith, within (c .before .before .before))
@@ -36,11 +27,4 @@ returns c = (c .divide-up .ensures, rw (c .divide-up .ensures) (most (c .before 
 pub share-spec : {M : Type 1} → statement M
 share-spec =
     tie.close
-    (tie.spec
-    cast-divide-up
-    cast-divide-up-2
-    mul-divide-up
-    cast-divide-up-3
-    divide-up-requires
-    cast-t9
-    returns)
+    (tie.spec (search needs) (search needs) mul-divide-up (search needs) divide-up-requires cast-t9 returns)

@@ -16,9 +16,6 @@ returns c = (rw (ne-eqb (c .before .before .args .s .right .lanes .0) 0 (λ e. o
 returns-2 : tie.Need-returns-2
 returns-2 c = (sym (bears-none _ _ (c .if2 .taken)), search needs)
 
-walkers-part-requires : tie.Need-walkers-part-requires
-walkers-part-requires c κs = search needs
-
 share-requires : tie.Need-share-requires
 share-requires c κs =
     let start = c .before .before .before .before .before in
@@ -35,5 +32,4 @@ returns-3 c =
     (rw (eq-eqb _ _ laneless, lt-ltb _ _ some) (cc), c .share .ensures .1)
 
 pub through-interference-spec : {M : Type 1} → statement M
-through-interference-spec =
-    tie.close (tie.spec returns returns-2 walkers-part-requires share-requires returns-3)
+through-interference-spec = tie.close (tie.spec returns returns-2 (search needs) share-requires returns-3)

@@ -57,16 +57,5 @@ returns c =
 pub read-all-spec : {M : Type 1} → statement M
 read-all-spec =
     tie.close
-    (tie.spec
-    Inv-loop
-    μ-loop
-    loop-holds
-    mul-read
-    read-requires
-    mul-numbers
-    slice-write-numbers
-    add-i
-    loop-less
-    loop-again
-    same-length
-    returns)
+    (tie.spec Inv-loop μ-loop loop-holds mul-read read-requires mul-numbers slice-write-numbers add-i loop-less
+    loop-again same-length returns)

@@ -66,17 +66,5 @@ returns c =
 pub write-all-spec : {M : Type 1} → statement M
 write-all-spec =
     tie.close
-    (tie.spec
-    Inv-loop
-    μ-loop
-    loop-holds
-    mul-write
-    add-write
-    mul-write-2
-    shared-slice-read-write
-    write-requires
-    add-i
-    loop-less
-    loop-again
-    same-length
-    returns)
+    (tie.spec Inv-loop μ-loop loop-holds mul-write add-write mul-write-2 shared-slice-read-write write-requires
+    add-i loop-less loop-again same-length returns)

@@ -4,16 +4,10 @@ use borrow.Author.Needs.{needs}
 use Rattle.kinds.proofs.Group.at.Statement.{statement}
 use Rattle.kinds.proofs.Group.at.Tie as tie
 
-returns : tie.Need-returns
-returns c = search needs
-
-returns-2 : tie.Need-returns-2
-returns-2 c = search needs
-
 returns-3 : tie.Need-returns-3
 returns-3 c =
     let e : c .before .args .place ≡ 2 = omega arith in
     rw e
 
 pub at-spec : {M : Type 1} → statement M
-at-spec = tie.close (tie.spec returns returns-2 returns-3)
+at-spec = tie.close (tie.spec (λ c. search needs) (λ c. search needs) returns-3)

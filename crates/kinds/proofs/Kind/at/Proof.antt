@@ -4,15 +4,9 @@ use borrow.Author.Needs.{needs}
 use Rattle.kinds.proofs.Kind.at.Statement.{statement}
 use Rattle.kinds.proofs.Kind.at.Tie as tie
 
-of-movement-requires : tie.Need-of-movement-requires
-of-movement-requires c κs = search needs
-
 returns : tie.Need-returns
 unfolding kindAt
 returns c = rw (lt-ltb _ _ (c .before .if1 .taken)) (c .of-movement .ensures)
-
-of-approach-requires : tie.Need-of-approach-requires
-of-approach-requires c κs = search needs
 
 returns-2 : tie.Need-returns-2
 unfolding kindAt
@@ -23,5 +17,4 @@ unfolding kindAt
 returns-3 c = rw (le-ltb _ _ (c .before .if1 .left), le-ltb _ _ (c .if2 .left))
 
 pub at-spec : {M : Type 1} → statement M
-at-spec =
-    tie.close (tie.spec of-movement-requires returns of-approach-requires returns-2 returns-3)
+at-spec = tie.close (tie.spec (search needs) returns (search needs) returns-2 returns-3)

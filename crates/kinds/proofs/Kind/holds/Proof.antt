@@ -4,9 +4,6 @@ use borrow.Author.Needs.{needs}
 use Rattle.kinds.proofs.Kind.holds.Statement.{statement}
 use Rattle.kinds.proofs.Kind.holds.Tie as tie
 
-limits-requires : tie.Need-limits-requires
-limits-requires c κs = search needs
-
 returns : tie.Need-returns
 unfolding inRange
 returns c = rw (← c .before .before .limits .ensures .0, lt-leb _ _ (c .if1 .taken))
@@ -16,4 +13,4 @@ unfolding inRange
 returns-2 c = rw (← c .before .before .before .limits .ensures .0, ← c .before .before .before .limits .ensures .1, le-leb _ _ (c .before .if1 .left))
 
 pub holds-spec : {M : Type 1} → statement M
-holds-spec = tie.close (tie.spec limits-requires returns returns-2)
+holds-spec = tie.close (tie.spec (search needs) returns returns-2)
