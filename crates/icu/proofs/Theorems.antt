@@ -7,11 +7,13 @@ use mathlib.Core.Bool.{false}
 use mathlib.Core.List.{List}
 use Prim.Native.Nat.{ℕ, _<_, _≤_, _^_}
 use lib.ListN.{length, getD, set, take}
+use native.Mathlib.Nat.{zero-add}
 use Rattle.answers.specs.Answers.{left-by}
 use Rattle.answers.specs.declared.Refusal.{Refusal}
 use Rattle.answers.specs.declared.Answer.{Answer}
 use Rattle.answers.specs.declared.Answer.the-variants.{Accepted, Refused}
 use Rattle.answers.proofs.Laws.{kept, renewed}
+use Rattle.entries.specs.Layout.{entryCount}
 use Rattle.entries.specs.Judging.{judged}
 use Rattle.procedure.specs.declared.Approach.{Approach}
 use Rattle.procedure.specs.Lines.{BLANK}
@@ -22,15 +24,25 @@ use Rattle.procedure.proofs.Compared.{compared}
 use Rattle.lines.proofs.NoBlank.{Refused as BlankMeans, blank-refuses}
 use Rattle.sheet.specs.Fill.{fillAnswer, filled}
 use Rattle.sheet.proofs.Fits.{sheet-fits}
+use Rattle.sheet.proofs.PairBlank.{PairBlank, pair-blank}
 use Rattle.amend.specs.Amend.{amendAnswer, amended, Change, amendedBy, entriesBy, reachedBy}
 use Rattle.amend.proofs.Laws.{amended-is-fresh, refused-stays, run-is-fresh, run-keeps}
 use Rattle.words.specs.Words.{AllBelow, over}
 use Rattle.study.specs.Study.{judgement, countOf, siteEntriesAnswer, siteEntries, writeAnswer, fileOf, fileBytes, sitesIn, entriesUpTo}
 use Rattle.listing.specs.Listing.{listing, listAnswer}
+use Rattle.text.specs.Text.{Placed}
+use Rattle.reader.specs.Reader.{parsed, reading, keptUnlessRead}
+use Rattle.reader.specs.declared.Reading.{Reading}
+use Rattle.reader.specs.declared.Reading.the-variants.{Read, Misread, Refused as NotAccepted}
+use Rattle.writer.specs.Writer.{junctionText}
+use Rattle.worksheet.specs.Worksheet.{sheetText, changeText}
+use Rattle.form.proofs.Places.{OnPage, on-page}
+use Rattle.says.specs.Says.{answerText, readingText}
 use Rattle.icu.specs.declared.IcuAnswer.{IcuAnswer}
 use Rattle.icu.specs.Told.{told}
 use Rattle.study.proofs.RoundTrip as round
 use Rattle.study.proofs.LongFile as long
+use Rattle.writer.proofs.RoundTrip as texts
 
 -- DEMAND 1. Every call finishes and asks nothing of its caller: the check proves that of every function, and no call of the
 -- crate icu has a `requires`. A refusal comes exactly when the table says: the answers are `fillAnswer`, `amendAnswer`,
@@ -54,6 +66,10 @@ filled-sheet e d accepted = sym (renewed (sheet e) d accepted)
 -- On acceptable entries no time reaches BLANK: lines 23 to 26 are BLANK only where the options are not allowed ..
 pub blank-only-where-refused : (s o : Approach) (CL : ℕ) → Fair s → Fair o → FairCycle CL → BlankMeans s o CL
 blank-only-where-refused = blank-refuses
+
+-- .. the totals of a pair only where it is shared or a line 26 is BLANK, the split total never ..
+pub blank-totals : (e : List ℕ) → judged e ≡ Accepted → (a o : ℕ) → a < 4 → o < 4 → PairBlank e a o
+blank-totals = pair-blank
 
 -- .. and every cell of the sheet fits 32 bits.
 pub cells-fit : (e : List ℕ) → judged e ≡ Accepted → (k : ℕ) → getD (sheet e) k 0 ≤ BLANK
@@ -90,6 +106,33 @@ run-of-amendments = run-is-fresh
 pub outside-the-reach :
     (run : List Change) (d : List ℕ) (k : ℕ) → k < length d → reachedBy run d k ≡ false → getD (amendedBy run d) k 0 ≡ getD d k 0
 outside-the-reach = run-keeps
+
+-- THE ENGINEERS' TEXTS. Any 81 numbers of 32 bits, written as a junction's text and read, are the same numbers ..
+pub written-as-text : (e : List ℕ) → length e ≡ entryCount → AllBelow (2 ^ 32) e → parsed (junctionText e) .entries ≡ e
+written-as-text = texts.entries-back
+
+-- .. and acceptable ones are read with nothing wrong: the reader leaves them, whatever its list held.
+pub accepted-as-text :
+    (e : List ℕ) → length e ≡ entryCount → AllBelow (2 ^ 32) e → judged e ≡ Accepted → reading (junctionText e) ≡ Read
+accepted-as-text = texts.read-back
+
+pub left-as-text :
+    (e : List ℕ) → length e ≡ entryCount → AllBelow (2 ^ 32) e → (old : List ℕ) → judged e ≡ Accepted
+    → keptUnlessRead (reading (junctionText e)) (parsed (junctionText e) .entries) old ≡ e
+left-as-text = texts.left-back
+
+-- Every cell of a sheet stands on the printed page, in the row and the column that a list of changes tells of it.
+pub on-the-page : (cell : ℕ) → cell < 209 → OnPage cell
+on-the-page = on-page
+
+-- A text that is not read alters nothing.
+pub refused-text : (text new old : List ℕ) → (reading text ≡ Read → ⊥) → keptUnlessRead (reading text) new old ≡ old
+refused-text text new old = by (reading text)
+  where
+    by : (r : Reading) → (r ≡ Read → ⊥) → keptUnlessRead r new old ≡ old
+    by Read refused = absurd (refused refl)
+    by (Misread why place) refused = refl
+    by (NotAccepted why at place) refused = refl
 
 -- ANY TWO OUTCOMES AGREE. Each promise says of the answer, and of every lent number afterwards, that it equals a function of
 -- the inputs: what a call allows is one answer and one list left behind.
@@ -131,3 +174,31 @@ abbrev pub listAllows : List ℕ → List ℕ → ℕ → IcuAnswer → List ℕ
 listAllows file old before =
     let answer = listAnswer file (length old) in
     Allowed (told answer) (left-by answer (over old 0 (listing file), length (listing file)) (old, before))
+
+-- and of the calls for the engineers' texts, in the words of their crates; a text read: what it comes to, and the entries left
+abbrev pub readAllows : List ℕ → List ℕ → Reading → List ℕ → Type 0
+readAllows text old = Allowed (reading text) (keptUnlessRead (reading text) (parsed text .entries) old)
+
+-- a text put at the front of a lent area: its length is told, and the bytes past it stay
+abbrev pub frontAllows : List ℕ → List ℕ → ℕ → List ℕ → Type 0
+frontAllows text old = Allowed (length text) (over old 0 text)
+
+-- `say_answer` and `say_reading` promise that as `Placed`
+pub placed-in-front : (text old after : List ℕ) (past : ℕ) → Placed old 0 text after past → frontAllows text old past after
+placed-in-front text old after past placed = record { answers = rw zero-add at (placed .next); leaves = placed .is }
+
+abbrev pub writeTextAllows : List ℕ → List ℕ → ℕ → List ℕ → Type 0
+writeTextAllows e = frontAllows (junctionText e)
+
+abbrev pub changesAllows : List ℕ → List ℕ → List ℕ → ℕ → List ℕ → Type 0
+changesAllows before after = frontAllows (changeText before after)
+
+abbrev pub sayAnswerAllows : Answer → List ℕ → ℕ → List ℕ → Type 0
+sayAnswerAllows answer = frontAllows (answerText answer)
+
+abbrev pub sayReadingAllows : List ℕ → Reading → List ℕ → ℕ → List ℕ → Type 0
+sayReadingAllows text read = frontAllows (readingText text read)
+
+-- a printed sheet fills its area, and nothing is told
+abbrev pub printAllows : List ℕ → Unit {0} → List ℕ → Type 0
+printAllows cells = Allowed tt (sheetText cells)

@@ -14,16 +14,8 @@ use blocks::Walking;
 use procedure::Approach;
 
 // The stages' numbers, in the lines' order.
-fn gather(
-    v: Volumes,
-    f: Flows,
-    w: Walking,
-    t: Times,
-    lane: Lane,
-    p: Permitted,
-    x: Split,
-) -> [u32; 28]
-    ensures { λ r. ⌜ r ≡ gathered v f w t lane p x ⌝ }
+fn gather(v: Volumes, f: Flows, w: Walking, t: Times, l: Lane, p: Permitted, x: Split) -> [u32; 28]
+    ensures { λ r. ⌜ r ≡ gathered v f w t l p x ⌝ }
 {
     [
         v.left.0,
@@ -44,10 +36,10 @@ fn gather(
         t.adjustedleft.0,
         t.adjustedthrough.0,
         t.adjustedright.0,
-        lane.heaviest.0,
-        lane.share,
-        lane.equivalent,
-        lane.flow.0,
+        l.heaviest.0,
+        l.share,
+        l.equivalent,
+        l.flow.0,
         p.a.0,
         p.b.0,
         p.lesser.0,

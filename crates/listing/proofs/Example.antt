@@ -20,16 +20,9 @@ use Rattle.entries.specs.Judging.{sizeAnswer, outside, badlyShared, otherLanes,
 use Rattle.procedure.specs.Junctions.{K1}
 use Rattle.words.specs.Words.{bytesOf, table, packed}
 use Rattle.study.specs.Study.{startsWith, offsetFields, judgement, fileOf}
-use Rattle.text.specs.Text.{digits, decimal, numberThen}
+use Rattle.text.specs.Text.{ascii, digits, decimal, numberThen}
 use Rattle.listing.specs.Listing.{ratedLine, refusedLine, siteOf, siteLines, listing}
 
--- "1 666 C PP" and "2 R3 80"
-abbrev text : List ℕ
-text =
-    49 ∷ 32 ∷ 54 ∷ 54 ∷ 54 ∷ 32 ∷ 67 ∷ 32 ∷ 80 ∷ 80 ∷ 10
-    ∷ 50 ∷ 32 ∷ 82 ∷ 51 ∷ 32 ∷ 56 ∷ 48 ∷ 10
-    ∷ []
-
-pub example : listing (fileOf (K1 ++ set K1 80 29)) ≡ text
-unfolding inRange kindAt up term turns faded decayNumber laneFactor movementEntry approachEntry readMovement readApproach a b volume vST turningT fT flowOf flow turningST sST sSL G interference frequency F time reference adjustedOf weightedOf weighted adjusted heaviest vLL q single leftShare equivalent E flowA sA optionAOf leftA optionA allowedA allowedB empty line23 sB throughB optionB line24 lesser line25 line26 line27 line28 firstLines laterLines lines protected permitted split picked pair throughTime leftTime rightTotal icuOf letterOf linesAt pairAt rightAt lastOf lastAt sheet lowest sizeAnswer outside badlyShared otherLanes unserved judged bytesOf table packed startsWith offsetFields judgement fileOf digits decimal numberThen ratedLine refusedLine siteOf siteLines listing
+pub example : listing (fileOf (K1 ++ set K1 80 29)) ≡ ascii "1 666 C PP\n2 R3 80\n"
+unfolding ascii inRange kindAt up term turns faded decayNumber laneFactor movementEntry approachEntry readMovement readApproach a b volume vST turningT fT flowOf flow turningST sST sSL G interference frequency F time reference adjustedOf weightedOf weighted adjusted heaviest vLL q single leftShare equivalent E flowA sA optionAOf leftA optionA allowedA allowedB empty line23 sB throughB optionB line24 lesser line25 line26 line27 line28 firstLines laterLines lines protected permitted split picked pair throughTime leftTime rightTotal icuOf letterOf linesAt pairAt rightAt lastOf lastAt sheet lowest sizeAnswer outside badlyShared otherLanes unserved judged bytesOf table packed startsWith offsetFields judgement fileOf digits decimal numberThen ratedLine refusedLine siteOf siteLines listing
 example = refl

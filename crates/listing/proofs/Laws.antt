@@ -15,7 +15,7 @@ use Rattle.words.proofs.Laws.{over-nothing}
 use Rattle.study.specs.Study.{siteLimit, sitesOf, siteEntries, siteAnswer, judgement}
 use Rattle.study.proofs.Laws.{accepted}
 use Rattle.study.proofs.LongFile.{decisive, front-decides}
-use Rattle.text.specs.Text.{numberThen, Placed}
+use Rattle.text.specs.Text.{numberThen, Placed, ascii}
 use Rattle.text.proofs.Laws.{length-numberThen, placed-next}
 use Rattle.listing.specs.Listing.{space, lineFeed, letterByte, phasingByte, ratedLine, refusedLine, lineOf, lineMost, fileLine}
 use Rattle.listing.specs.Listing.{siteOf, siteLine, siteLines, listingBy, listing, areaBytes, listAnswer}
@@ -50,7 +50,7 @@ length-lineOf number (Refused why place) =
     )
 
 pub length-fileLine : (place : ℕ) → length (fileLine place) ≤ lineMost
-unfolding fileLine
+unfolding fileLine ascii
 length-fileLine place = omega (arith, length-numberThen place lineFeed)
 
 -- a line is put piece after piece

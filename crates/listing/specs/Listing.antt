@@ -13,7 +13,7 @@ use Rattle.answers.specs.declared.Answer.the-variants.{Refused as No}
 use Rattle.entries.specs.Judging.{judged}
 use Rattle.procedure.specs.Sheet.{sheet}
 use Rattle.study.specs.Study.{sitesOf, siteEntries, judgement}
-use Rattle.text.specs.Text.{digitMost, numberThen}
+use Rattle.text.specs.Text.{ascii, digitMost, numberThen}
 use Rattle.listing.specs.declared.Rating.{Rating}
 use Rattle.listing.specs.declared.Site.{Site}
 use Rattle.listing.specs.declared.Site.the-variants.{Rated, Refused}
@@ -95,7 +95,7 @@ siteLines file (suc n) = siteLines file n ++ siteLine (n + 1) (siteEntries file 
 
 -- "A bad file gives only `file R6` and the place."
 unfoldable pub fileLine : ℕ → List ℕ
-fileLine place = (102 ∷ 105 ∷ 108 ∷ 101 ∷ 32 ∷ 82 ∷ 54 ∷ 32 ∷ []) ++ numberThen place lineFeed
+fileLine place = ascii "file R6 " ++ numberThen place lineFeed
 
 abbrev pub listingBy : Answer → List ℕ → List ℕ
 listingBy Accepted file = siteLines file (sitesOf file)

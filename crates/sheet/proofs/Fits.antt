@@ -121,7 +121,7 @@ module _ (e : List ℕ) (ok : judged e ≡ Accepted) where
     unfolding linesAt
     lines-at-fit = record { at = lines-fit (readApproach e a) (readApproach e o) (cycle e) (fair e ok a h) (fair e ok o k) (fair-cycle e ok) }
 
-    bounded-at : Bounded (linesAt e a o)
+    pub bounded-at : Bounded (linesAt e a o)
     unfolding linesAt
     bounded-at = bounded-lines (readApproach e a) (readApproach e o) (cycle e) (fair e ok a h) (fair e ok o k) (fair-cycle e ok)
 

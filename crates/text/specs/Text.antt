@@ -1,11 +1,23 @@
 -- Numbers as text, in ASCII, and text that is put at a place of a list of bytes.
 use Prim.Native.Nat.{ℕ, zero, suc, _+_, _*_, _-_, _/_, _%_}
+use Prim.Native.Char.{code}
+use Prim.Native.String.{String, [] as none, _∷_ as _then_}
 use mathlib.Core.Path.{_≡_}
 use mathlib.Core.Bool.{cond}
 use mathlib.Core.List.{List, [], _∷_, _++_}
 use lib.ListN.{length}
 use lib.Dec.{ltb}
 use Rattle.words.specs.Words.{over}
+
+-- the bytes of a text
+unfoldable pub ascii : String → List ℕ
+ascii none = []
+ascii (c then s) = code c ∷ ascii s
+
+-- the bytes of texts, one after the other
+unfoldable pub joined : List String → List ℕ
+joined [] = []
+joined (s ∷ rest) = ascii s ++ joined rest
 
 -- the byte of a digit
 abbrev pub digit : ℕ → ℕ

@@ -1,3 +1,4 @@
+use Rattle.text.specs.Text.{ascii}
 -- `listing::put_bad_file`. The place stands just past the words.
 use Rattle.text.proofs.Laws.{number-fits, length-numberThen, placed-next}
 use native.Mathlib.Omega.{arith}
@@ -10,7 +11,7 @@ put-number-then-requires : tie.Need-put-number-then-requires
 put-number-then-requires c κs = number-fits _ _ _ _ (omega arith)
 
 returns : tie.Need-returns
-unfolding fileLine
+unfolding fileLine ascii
 returns c =
     let call = c .before .before in
     let marked = call .before .before .before .before in

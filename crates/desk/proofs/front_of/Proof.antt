@@ -1,0 +1,12 @@
+use mathlib.Core.Path.{sym}
+use lib.Seq.{length-take-le}
+use native.Mathlib.Omega.{arith}
+use borrow.Author.Needs.{needs}
+use Rattle.desk.proofs.front_of.Statement.{statement}
+use Rattle.desk.proofs.front_of.Tie as tie
+
+slice-aggregate-result : tie.Need-slice-aggregate-result
+slice-aggregate-result c = sym (length-take-le _ _ (omega arith))
+
+pub front-of-spec : {M : Type 1} → statement M
+front-of-spec = tie.close (tie.spec slice-aggregate-result (search needs) (search needs))

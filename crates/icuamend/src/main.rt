@@ -1,0 +1,158 @@
+// Changes one entry of a site of a study file, and prints every cell of its sheet that changes.
+use answers::Answer;
+use files::Input;
+use libc::STDERR_FILENO;
+use libc::STDOUT_FILENO;
+
+// Room for the entries of as many sites as a study file holds.
+const ALL_ENTRIES: usize = 14_580;
+
+// What is changed: a site, one of its entries, and the entry's new value.
+struct Change {
+    site: u32,
+    entry: u32,
+    value: u32,
+}
+
+fn tell_use() {
+    io::write_all(
+        STDERR_FILENO,
+        b"usage: icuamend STUDY SITE NAME ENTRY VALUE [NEW]\n",
+    );
+    io::write_all(
+        STDERR_FILENO,
+        b"  prints what changes on the sheet of a site, from 1, as in: icuamend STUDY 1 EBT volume 450\n",
+    );
+    io::write_all(
+        STDERR_FILENO,
+        b"  NAME: EBL EBT EBR .. SBR with lanes volume ideal-flow lost-time minimum-green,\n",
+    );
+    io::write_all(
+        STDERR_FILENO,
+        b"        EB WB NB SB with shared-lane pedestrians push-button pedestrian-time free-right,\n",
+    );
+    io::write_all(
+        STDERR_FILENO,
+        b"        junction with cycle\n  NEW: the file that the changed study is written to\n",
+    );
+}
+
+fn print_text(text: &[u8; worksheet::CHANGE_BYTES], size: usize) {
+    io::write_all(STDOUT_FILENO, files::front(text, size));
+}
+
+fn print_changes(before: &[u32], after: &[u32]) {
+    let mut text = [0u8; worksheet::CHANGE_BYTES];
+    let size = worksheet::changes(before, after, &mut text);
+    print_text(&text, size);
+}
+
+// Prints what the change does to the sheet that is filled from these entries; whether it is accepted.
+fn amend_sheet(entries: &[u32], change: Change) -> bool {
+    let mut before = [0u32; sheet::COUNT];
+    let filled = sheet::fill(entries, &mut before);
+    let Answer::Accepted = filled else {
+        desk::refuse(filled);
+        return false;
+    };
+    let mut after = before;
+    let amended = amend::amend(&mut after, change.entry, change.value);
+    let Answer::Accepted = amended else {
+        desk::refuse(amended);
+        return false;
+    };
+    print_changes(&before, &after);
+    true
+}
+
+fn amend_entries(entries: &[u32; 81], change: Change) -> bool {
+    amend_sheet(entries, change)
+}
+
+fn amend_site(file: &[u8], change: Change) -> bool {
+    let mut entries = [0u32; 81];
+    if !desk::read_site(file, 2, &mut entries) {
+        return false;
+    }
+    amend_entries(&entries, change)
+}
+
+// Copies the entries of every site of a study.
+fn copy_sites(file: &[u8], all: &mut [u32]) {
+    let sites = study::count(file);
+    let mut site: u32 = 0;
+    while site < sites {
+        copy_site(file, site, all);
+        site += 1;
+    }
+}
+
+fn copy_site(file: &[u8], site: u32, all: &mut [u32]) {
+    let mut entries = [0u32; 81];
+    study::site_entries(file, site, &mut entries);
+    desk::put_site(all, site, &entries);
+}
+
+fn put_entry(all: &mut [u32], at: usize, value: u32) {
+    if at < all.len() {
+        all[at] = value;
+    }
+}
+
+// Writes the study with the change made to the file that the last argument names.
+fn write_changed(file: &[u8], change: Change) {
+    let mut all = [0u32; ALL_ENTRIES];
+    copy_sites(file, &mut all);
+    put_entry(
+        &mut all,
+        81 * change.site as usize + change.entry as usize,
+        change.value,
+    );
+    desk::write_study(6, study::count(file), &all);
+}
+
+fn amend_study(file: &[u8], change: Change, is_kept: bool) {
+    if amend_site(file, change) {
+        if is_kept {
+            write_changed(file, change);
+        }
+    }
+}
+
+fn amend_from(area: &[u8; desk::AREA_BYTES], size: usize, change: Change, is_kept: bool) {
+    amend_study(files::front(area, size), change, is_kept);
+}
+
+fn run(change: Change, is_kept: bool) {
+    let mut area = [0u8; desk::AREA_BYTES];
+    let input = desk::read_file(1, &mut area);
+    let Input::Read(size) = input else {
+        return;
+    };
+    amend_from(&area, size, change, is_kept);
+}
+
+fn main() {
+    let count = os::arg_count();
+    if count != 6 && count != 7 {
+        tell_use();
+        return;
+    }
+    let entry = desk::entry_in(3, 4);
+    let value = desk::number_in(5);
+    if entry == names::ENTRIES {
+        desk::complain(4, b"no entry has this name there\n");
+        tell_use();
+        return;
+    }
+    if 4_294_967_295 < value {
+        desk::complain(5, b"a whole number is expected here\n");
+        return;
+    }
+    let change = Change {
+        site: desk::site_in(2),
+        entry,
+        value: value as u32,
+    };
+    run(change, count == 7);
+}

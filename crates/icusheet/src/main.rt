@@ -1,0 +1,72 @@
+// Prints the worksheet of a junction: of its text, or of a site of a study file.
+use answers::Answer;
+use files::Input;
+use libc::STDERR_FILENO;
+use libc::STDOUT_FILENO;
+
+fn tell_use() {
+    io::write_all(
+        STDERR_FILENO,
+        b"usage: icusheet TEXT         prints the worksheet of the junction in a text\n",
+    );
+    io::write_all(
+        STDERR_FILENO,
+        b"       icusheet STUDY SITE   prints that of a site of a study file, sites from 1\n",
+    );
+}
+
+fn print_text(text: &[u8; worksheet::SHEET_BYTES]) {
+    io::write_all(STDOUT_FILENO, text);
+}
+
+// Prints the sheet that is filled from these entries, or tells why they are refused.
+fn print_sheet(entries: &[u32]) {
+    let mut cells = [0u32; sheet::COUNT];
+    let answer = sheet::fill(entries, &mut cells);
+    let Answer::Accepted = answer else {
+        desk::refuse(answer);
+        return;
+    };
+    let mut text = [0u8; worksheet::SHEET_BYTES];
+    worksheet::print(&cells, &mut text);
+    print_text(&text);
+}
+
+fn print_junction(entries: &[u32; 81]) {
+    print_sheet(entries);
+}
+
+fn print_site(file: &[u8]) {
+    let mut entries = [0u32; 81];
+    if desk::read_site(file, 2, &mut entries) {
+        print_junction(&entries);
+    }
+}
+
+fn print_from(area: &[u8; desk::AREA_BYTES], size: usize) {
+    print_site(files::front(area, size));
+}
+
+fn of_text() {
+    let mut entries = [0u32; 81];
+    if desk::read_junction(1, &mut entries) {
+        print_junction(&entries);
+    }
+}
+
+fn of_study() {
+    let mut area = [0u8; desk::AREA_BYTES];
+    let input = desk::read_file(1, &mut area);
+    let Input::Read(size) = input else {
+        return;
+    };
+    print_from(&area, size);
+}
+
+fn main() {
+    match os::arg_count() {
+        2 => of_text(),
+        3 => of_study(),
+        _ => tell_use(),
+    }
+}

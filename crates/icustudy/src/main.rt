@@ -1,0 +1,104 @@
+// Makes a study file of junctions' texts, and prints a study's sites as texts.
+use files::Input;
+use libc::STDERR_FILENO;
+use libc::STDOUT_FILENO;
+
+// Room for the entries of as many sites as a study file holds.
+const ALL_ENTRIES: usize = 14_580;
+
+fn tell_use() {
+    io::write_all(
+        STDERR_FILENO,
+        b"usage: icustudy make STUDY TEXT ...   makes a study file of the junctions in the texts\n",
+    );
+    io::write_all(
+        STDERR_FILENO,
+        b"       icustudy show STUDY SITE       prints a site of a study file as text, sites from 1\n",
+    );
+}
+
+// Reads a junction from each of the texts that are named from the fourth argument on; whether all are well.
+fn read_texts(sites: u32, all: &mut [u32]) -> bool {
+    let mut site: u32 = 0;
+    while site < sites {
+        if !read_text(3 + site as usize, site, all) {
+            return false;
+        }
+        site += 1;
+    }
+    true
+}
+
+fn read_text(argument: usize, site: u32, all: &mut [u32]) -> bool {
+    let mut entries = [0u32; 81];
+    if !desk::read_junction(argument, &mut entries) {
+        return false;
+    }
+    put_site(all, site, &entries);
+    true
+}
+
+fn put_site(all: &mut [u32], site: u32, entries: &[u32; 81]) {
+    desk::put_site(all, site, entries);
+}
+
+fn make_of(sites: u32) {
+    let mut all = [0u32; ALL_ENTRIES];
+    if read_texts(sites, &mut all) {
+        desk::write_study(2, sites, &all);
+    }
+}
+
+fn make(texts: usize) {
+    if 180 < texts {
+        io::write_all(STDERR_FILENO, b"a study holds at most 180 junctions\n");
+        return;
+    }
+    make_of(texts as u32);
+}
+
+fn print_text(text: &[u8; writer::TEXT_BYTES], size: usize) {
+    io::write_all(STDOUT_FILENO, files::front(text, size));
+}
+
+fn print_entries(entries: &[u32; 81]) {
+    let mut text = [0u8; writer::TEXT_BYTES];
+    let size = writer::write(entries, &mut text);
+    print_text(&text, size);
+}
+
+fn show_site(file: &[u8]) {
+    let mut entries = [0u32; 81];
+    if desk::read_site(file, 3, &mut entries) {
+        print_entries(&entries);
+    }
+}
+
+fn show_from(area: &[u8; desk::AREA_BYTES], size: usize) {
+    show_site(files::front(area, size));
+}
+
+fn show() {
+    let mut area = [0u8; desk::AREA_BYTES];
+    let input = desk::read_file(2, &mut area);
+    let Input::Read(size) = input else {
+        return;
+    };
+    show_from(&area, size);
+}
+
+fn run(job: &[u8], count: usize) {
+    if 4 <= count && check::same(job, b"make") {
+        make(count - 3);
+    } else if count == 4 && check::same(job, b"show") {
+        show();
+    } else {
+        tell_use();
+    }
+}
+
+fn main() {
+    let mut job = io::buffer();
+    let size = os::arg(1, &mut job);
+    run(&job[..size], os::arg_count());
+}

@@ -1,0 +1,58 @@
+-- What BLANK means in the totals of a pair: on acceptable entries a total is BLANK only where its option is not allowed.
+use mathlib.Core.Path.{_≡_, refl}
+use mathlib.Core.Logic.{_⊎_, inl, inr}
+use mathlib.Core.Bool.{Bool, true, false, _||_}
+use mathlib.Core.List.{List}
+use Prim.Native.Nat.{ℕ, _≤_, _<_}
+use native.Mathlib.Omega.{arith}
+use lib.Dec.{eqb, lit≤}
+use lib.ListN.{getD}
+use borrow.Author.Tests.{eqb-true, eqb-false}
+use Rattle.answers.specs.declared.Answer.the-variants.{Accepted}
+use Rattle.entries.specs.Judging.{judged}
+use Rattle.procedure.specs.Approach.{readApproach, isShared}
+use Rattle.procedure.specs.Lines.{BLANK}
+use Rattle.procedure.specs.Pairs.{line, protected, permitted, split, pair}
+use Rattle.procedure.specs.Sheet.{linesAt, pairAt}
+use Rattle.blocks.specs.Cells.{Bounded}
+use Rattle.lines.proofs.NoBlank.{timely-fits}
+use Rattle.sheet.proofs.Fits.{bounded-at}
+
+module _ (x y : List ℕ) (bx : Bounded x) (by : Bounded y) where
+  protected-blank : (shared : Bool) → protected shared x y ≡ BLANK → shared ≡ true
+  unfolding protected
+  protected-blank true e = refl
+  protected-blank false e = absurd (omega (arith, e, bx .line16, bx .line17, by .line16, by .line17))
+
+  permitted-blank : permitted x y ≡ BLANK → (line 26 x ≡ BLANK) ⊎ (line 26 y ≡ BLANK)
+  unfolding permitted
+  permitted-blank e = go (eqb (line 26 x) BLANK) (eqb (line 26 y) BLANK) refl refl
+    where
+      go : (a b : Bool) → eqb (line 26 x) BLANK ≡ a → eqb (line 26 y) BLANK ≡ b → (line 26 x ≡ BLANK) ⊎ (line 26 y ≡ BLANK)
+      go true b ha hb = inl (eqb-true _ _ ha)
+      go false true ha hb = inr (eqb-true _ _ hb)
+      go false false ha hb =
+          let first : line 26 x ≤ BLANK = timely-fits (lit≤ tt) (bx .line26) in
+          let second : line 26 y ≤ BLANK = timely-fits (lit≤ tt) (by .line26) in
+          absurd (omega (arith, rw (ha, hb) at e, first, second, eqb-false (line 26 x) BLANK ha, eqb-false (line 26 y) BLANK hb))
+
+  split-time : split x y < BLANK
+  unfolding split
+  split-time = omega (arith, bx .line28, by .line28)
+
+-- the totals of the pair of approaches a and o: protected, permitted, split
+pub record PairBlank (e : List ℕ) (a o : ℕ) : Type 0 where
+  pub protected : getD (pairAt e a o) 0 0 ≡ BLANK → (isShared (readApproach e a) || isShared (readApproach e o)) ≡ true
+  pub permitted : getD (pairAt e a o) 1 0 ≡ BLANK → (line 26 (linesAt e a o) ≡ BLANK) ⊎ (line 26 (linesAt e o a) ≡ BLANK)
+  pub split : getD (pairAt e a o) 2 0 < BLANK
+
+pub pair-blank : (e : List ℕ) → judged e ≡ Accepted → (a o : ℕ) → a < 4 → o < 4 → PairBlank e a o
+unfolding pairAt pair
+pair-blank e ok a o h k =
+    let first = bounded-at e ok a o h k in
+    let second = bounded-at e ok o a k h in
+    record {
+      protected = protected-blank (linesAt e a o) (linesAt e o a) first second _;
+      permitted = permitted-blank (linesAt e a o) (linesAt e o a) first second;
+      split = split-time (linesAt e a o) (linesAt e o a) first second;
+    }

@@ -1,0 +1,328 @@
+"""Runs the engineers' programs and compares what they print with the second calculation.
+
+    python3 tests/second/programs.py PART
+
+PART is one of: usage, samples, junctions, runs, typed, damaged, studies, amendments. Programs are taken from target/bin and samples from
+samples/table, under the project's root, where this is to be started. The last line counts what was compared.
+"""
+
+import os
+import random
+import subprocess
+import sys
+import tempfile
+
+sys.dont_write_bytecode = True  # leave no cache beside the sources
+
+import icu2003
+import junctions
+import table
+
+BIN = os.path.abspath("target/bin")
+SAMPLES = "samples/table"
+NAMES = list(table.TITLES)
+
+
+class Bench:
+    """A folder to work in, and a count of what was compared."""
+
+    def __init__(self, folder, seed):
+        self.folder, self.rng, self.count = folder, random.Random(seed), 0
+
+    def path(self, name):
+        return os.path.join(self.folder, name)
+
+    def put(self, name, data):
+        with open(self.path(name), "wb") as f:
+            f.write(data)
+        return self.path(name)
+
+    def get(self, name):
+        with open(self.path(name), "rb") as f:
+            return f.read()
+
+    def same(self, what, got, wanted):
+        self.count += 1
+        if got != wanted:
+            sys.exit("%s: got %r, wanted %r" % (what, got, wanted))
+
+    def run(self, program, *words):
+        """(standard output, standard error) of a program that must end well."""
+        done = subprocess.run([os.path.join(BIN, program)] + list(words), capture_output=True, timeout=60)
+        self.same("exit status of %s" % program, done.returncode, 0)
+        return done.stdout, done.stderr
+
+
+# ---------------------------------------------------------------- what is expected
+
+def study_of(sites):
+    """The bytes of a study file of these sites."""
+    out = bytearray(icu2003.block_start(len(sites), len(sites)))
+    assert icu2003.study_write([x for e in sites for x in e], out) == (0, 0)
+    return bytes(out)
+
+
+def sheet_of(entries):
+    """What icusheet prints of entries, to standard output and to standard error."""
+    answer = icu2003.judge(entries)
+    if answer != (0, 0):
+        return b"", (table.refusal_text(*answer) + "\n").encode()
+    return table.sheet_text(icu2003.fill(entries)).encode(), b""
+
+
+def typed_sheet(path, data):
+    """What icusheet prints of a text."""
+    said = table.said_of(data)
+    if said:
+        return b"", path.encode() + b": " + said.encode()
+    return table.sheet_text(icu2003.fill(table.read_text(data))).encode(), b""
+
+
+def pick(rng, entry):
+    least, most = icu2003.limits(entry)
+    return rng.choice((least, most, rng.randint(least, most), rng.randint(least, most)))
+
+
+def likely(rng):
+    """Entries that are mostly acceptable."""
+    entries = list(table.USUAL)
+    for entry in range(81):
+        if entry % 5 < 2 or entry >= 60 or rng.random() < 0.3:
+            entries[entry] = pick(rng, entry)
+    for a in range(4):
+        if rng.random() < 0.9:
+            entries[15 * a + 5] = max(1, entries[15 * a + 5])
+            if entries[60 + 5 * a]:
+                entries[15 * a] = 0
+            else:
+                entries[15 * a] = max(1, entries[15 * a])
+    return entries
+
+
+def loosely(rng, entries):
+    """A text of these entries in any order and layout, with comments."""
+    parts = []
+    for entry in rng.sample(range(81), 81):
+        group, kind = table.entry_name(entry).split()
+        parts.append((group, kind, str(entries[entry]).zfill(rng.choice((1, 1, 1, 6)))))
+    gaps = (" ", "\t", "\n", "\r\n", "  ", "# a comment, EBL lanes 9\n", " #\n", "\n\n")
+    return "".join(rng.choice(gaps) + word for part in parts for word in part).encode() + rng.choice((b"", b"\n", b" # end"))
+
+
+def damaged(rng, data):
+    """A text with some bytes lost, added or changed, or cut short."""
+    data = bytearray(data)
+    for _ in range(rng.choice((1, 1, 1, 2, 5))):
+        at = rng.randrange(len(data) + 1)
+        way = rng.randrange(5)
+        if way == 0:
+            del data[at:at + rng.choice((1, 2, 10))]
+        elif way == 1:
+            data[at:at] = bytes([rng.choice(b"\0\n #9xE\xff")])
+        elif way == 2:
+            data[at:at + 1] = bytes([rng.randrange(256)])
+        elif way == 3:
+            del data[at:]
+        else:
+            other = rng.randrange(len(data) + 1)
+            data[at:at] = data[other:other + rng.randrange(30)]
+    return bytes(data)
+
+
+# ---------------------------------------------------------------- the parts
+
+def usage(b):
+    """Called with nothing or with a wrong word, each program says how it is used."""
+    for program, calls in (("icusheet", ((), ("a", "1", "c"))),
+                           ("icuamend", ((), ("a",), ("a", "1", "EBT", "volume"), ("a", "1", "EBT", "volume", "1", "n", "o"))),
+                           ("icustudy", ((), ("make",), ("make", "a"), ("show", "a"), ("mend", "a", "b"), ("show", "a", "1", "2")))):
+        for words in calls:
+            out, said = b.run(program, *words)
+            b.same("output of %s" % program, out, b"")
+            b.same("usage of %s" % program, said.startswith(b"usage: %s " % program.encode()), True)
+    study = b.put("s.icus", study_of([junctions.K1]))
+    for words, said in ((("EBT", "volumes", "1"), b"volumes: no entry has this name there\nusage: "),
+                        (("EB", "volume", "1"), b"volume: no entry has this name there\nusage: "),
+                        (("EBT", "volume", "-1"), b"-1: a whole number is expected here\n"),
+                        (("EBT", "volume", ""), b": a whole number is expected here\n"),
+                        (("EBT", "volume", "0" * 5000), b": a whole number is expected here\n"),
+                        (("EBT", "", "1"), b": no entry has this name there\nusage: "),
+                        (("EBT", "volume", "4294967296"), b"4294967296: a whole number is expected here\n")):
+        out, got = b.run("icuamend", study, "1", *words)
+        b.same("output", out, b"")
+        b.same("said", got.startswith(said), True)
+    for words in ((study, "0"), (study, "2"), (study, "x"), (study, ""), (study, "4294967296"), (study, "9" * 20)):
+        b.same("site", b.run("icusheet", *words), (b"", words[1].encode() + b": the study has no such site\n"))
+    for missing in ("nothing", ".", ""):
+        b.same("missing", b.run("icusheet", missing), (b"", missing.encode() + b": cannot be read\n"))
+    b.same("unwritable", b.run("icustudy", "make", ".", os.path.join(SAMPLES, "k1.txt")), (b"", b".: cannot be written\n"))
+
+
+def samples(b):
+    """The ten junctions: texts to a study and back, their sheets, and a change of each."""
+    texts = [os.path.join(SAMPLES, name + ".txt") for name in NAMES]
+    for folder in (SAMPLES, b.folder):
+        table.main(b.folder)
+        for name in NAMES:
+            for kind in (".txt", ".full", ".sheet", ".amend", ".changes"):
+                with open(os.path.join(folder, name + kind), "rb") as f:
+                    b.same(name + kind, f.read(), b.get(name + kind))
+    sites = [entries for _, entries in table.samples()]
+    study = b.path("ten.icus")
+    b.same("make", b.run("icustudy", "make", study, *texts), (b"", b""))
+    b.same("study", b.get("ten.icus"), study_of(sites))
+    for number, name in enumerate(NAMES, 1):
+        b.same("typed " + name, b.run("icusheet", texts[number - 1]), (b.get(name + ".sheet"), b""))
+        b.same("site " + name, b.run("icusheet", study, str(number)), (b.get(name + ".sheet"), b""))
+        b.same("text " + name, b.run("icustudy", "show", study, str(number)), (b.get(name + ".full"), b""))
+        words = b.get(name + ".amend").decode().split()
+        b.same("change " + name, b.run("icuamend", study, str(number), *words), (b.get(name + ".changes"), b""))
+
+
+def named(b):
+    """Every named junction, acceptable or not."""
+    sites = [entries for _, entries in junctions.all_junctions()]
+    study = b.put("named.icus", study_of(sites))
+    for number, entries in enumerate(sites, 1):
+        b.same("named junction", b.run("icusheet", study, str(number)), sheet_of(entries))
+
+
+def correction(rng):
+    """An entry and a value: mostly within the range, sometimes past an end."""
+    entry = rng.randrange(81)
+    least, most = icu2003.limits(entry)
+    roll = rng.random()
+    if roll < 0.1:
+        return entry, most + 1
+    if roll < 0.15 and least > 0:
+        return entry, least - 1
+    return entry, rng.choice((least, most, rng.randint(least, most), rng.randint(least, min(most, least + 200))))
+
+
+def runs(b):
+    """Runs of changes, refused ones among them, each on the study that the last one left."""
+    for _, entries in junctions.all_junctions():
+        if icu2003.judge(entries) != (0, 0):
+            continue
+        study, sheet = b.put("run.icus", study_of([entries])), icu2003.fill(entries)
+        for entry, value in [correction(b.rng) for _ in range(16)]:
+            before = list(sheet)
+            answer = icu2003.amend(sheet, entry, value)
+            b.same("a fresh fill", sheet, icu2003.fill(sheet[:81]))
+            wanted = (b"", (table.refusal_text(*answer) + "\n").encode()) if answer[0] else (table.change_text(before, sheet).encode(), b"")
+            b.same("run", b.run("icuamend", study, "1", *table.entry_name(entry).split(), str(value), study), wanted)
+            b.same("run's study", b.get("run.icus"), study_of([sheet[:81]]))
+
+
+def typed(b):
+    """Texts in any order and layout."""
+    for _ in range(150):
+        data = loosely(b.rng, likely(b.rng))
+        path = b.put("typed.txt", data)
+        b.same("typed", b.run("icusheet", path), typed_sheet(path, data))
+
+
+def unread(b, data):
+    """A text, whatever its bytes: its sheet or what is wrong; and no study is made of it if anything is."""
+    path, study = b.put("text.txt", data), b.path("made.icus")
+    wanted = typed_sheet(path, data)
+    b.same("text", b.run("icusheet", path), wanted)
+    if os.path.exists(study):
+        os.remove(study)
+    good = os.path.join(SAMPLES, "k2.txt")
+    out, said = b.run("icustudy", "make", study, good, path)
+    b.same("said of a study", (out, said), (b"", wanted[1]))
+    b.same("study made", os.path.exists(study), wanted[1] == b"")
+
+
+def damaged_texts(b):
+    """Any bytes as text."""
+    texts = [table.brief_text(table.TITLES[name], entries).encode() for name, entries in table.samples()]
+    texts += [table.write_text(entries).encode() for _, entries in table.samples()]
+    for _ in range(400):
+        unread(b, damaged(b.rng, b.rng.choice(texts)))
+    for data in (b"", b"\n", b"#", b"EBL", b"EBL lanes", b"EBL lanes ", b"lanes 1", b"EB lanes 1", b"EBL lanes 1 lanes 1",
+                 b"junction cycle 29", b"junction cycle 4294967295", b"junction cycle 4294967296", b"EBL 1", b"ebl lanes 1",
+                 b"EBL\0 lanes 1", b"EBL lanes 1,", b"junctions cycle 60", b"pedestrian-times 1", b"\xef\xbb\xbfEBL lanes 1"):
+        unread(b, data)
+    for size in (1, 10, 1000, 65535):
+        unread(b, bytes(b.rng.randrange(256) for _ in range(size)))
+        unread(b, b" " * size)
+    for size in (65536, 200000):
+        unread(b, b"# " + b"x" * 70 + b"\n" + b" " * size)
+
+
+def studies(b):
+    """Sites of any numbers as texts and back, and study files of any bytes."""
+    for _ in range(60):
+        sites = [[b.rng.choice((0, 1, 2**32 - 1, b.rng.randrange(2**32), b.rng.randrange(3000))) for _ in range(81)]
+                 for _ in range(b.rng.randint(1, 3))]
+        study = b.put("any.icus", study_of(sites))
+        for number, entries in enumerate(sites, 1):
+            out, said = b.run("icustudy", "show", study, str(number))
+            b.same("shown", (out, said), (table.write_text(entries).encode(), b""))
+            b.same("read back", table.parse(out)[0], entries)
+            b.same("sheet", b.run("icusheet", study, str(number)), sheet_of(entries))
+    whole = study_of([likely(b.rng) for _ in range(3)])
+    for _ in range(150):
+        data = whole if b.rng.random() < 0.1 else damaged(b.rng, whole)
+        path, answer = b.put("bad.icus", data), icu2003.study_check(data)
+        if answer == (0, 0):
+            wanted = sheet_of(icu2003.block_entries(icu2003.study_site(data, 0))) if icu2003.number_at(data, 4) else None
+        else:
+            wanted = b"", (table.refusal_text(*answer) + "\n").encode()
+        if wanted:
+            b.same("bad study", b.run("icusheet", path, "1"), wanted)
+            b.same("bad study, shown", b.run("icustudy", "show", path, "1")[1], wanted[1] if answer != (0, 0) else b"")
+    full = [likely(b.rng) for _ in range(180)]
+    study = b.put("full.icus", study_of(full))
+    b.same("last of 180", b.run("icusheet", study, "180"), sheet_of(full[179]))
+    k1 = os.path.join(SAMPLES, "k1.txt")
+    b.same("180 texts", b.run("icustudy", "make", b.path("most.icus"), *[k1] * 180), (b"", b""))
+    b.same("180 sites", b.get("most.icus"), study_of([junctions.K1] * 180))
+    b.same("181 texts", b.run("icustudy", "make", b.path("more.icus"), *[k1] * 181), (b"", b"a study holds at most 180 junctions\n"))
+    b.same("no file", os.path.exists(b.path("more.icus")), False)
+
+
+def amendments(b):
+    """Changes of any entry to any value: what changes, and the changed study."""
+    for _ in range(250):
+        sites = [likely(b.rng) for _ in range(b.rng.randint(1, 4))]
+        site, entry = b.rng.randrange(len(sites)), b.rng.randrange(81)
+        value = pick(b.rng, entry) if b.rng.random() < 0.8 else b.rng.randrange(2**32)
+        study, new = b.put("study.icus", study_of(sites)), b.path("new.icus")
+        if os.path.exists(new):
+            os.remove(new)
+        words = [study, str(site + 1)] + table.entry_name(entry).split() + [str(value), new]
+        answer = icu2003.judge(sites[site])
+        if answer == (0, 0):
+            before = icu2003.fill(sites[site])
+            after = list(before)
+            answer = icu2003.amend(after, entry, value)
+        if answer == (0, 0):
+            wanted = table.change_text(before, after).encode(), b""
+            sites[site] = after[:81]
+        else:
+            wanted = b"", (table.refusal_text(*answer) + "\n").encode()
+        b.same("change", b.run("icuamend", *words), wanted)
+        b.same("new study", os.path.exists(new), answer == (0, 0))
+        if answer == (0, 0):
+            b.same("new study's bytes", b.get("new.icus"), study_of(sites))
+        b.same("old study", b.run("icuamend", *words[:-1]), wanted)
+
+
+PARTS = {"usage": usage, "samples": samples, "junctions": named, "runs": runs, "typed": typed, "damaged": damaged_texts, "studies": studies,
+         "amendments": amendments}
+
+
+def main(part):
+    with tempfile.TemporaryDirectory() as folder:
+        bench = Bench(folder, part)
+        PARTS[part](bench)
+    print("%s: %d compared, all the same" % (part, bench.count))
+
+
+if __name__ == "__main__":
+    if len(sys.argv) != 2 or sys.argv[1] not in PARTS:
+        sys.exit(__doc__)
+    main(sys.argv[1])

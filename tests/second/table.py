@@ -1,0 +1,305 @@
+"""The engineers' texts worked out a second time: a junction as text, its worksheet, and what a change changes.
+
+    python3 tests/second/table.py OUTDIR
+
+writes the sample junctions into OUTDIR: NAME.txt as a person types it, NAME.full as the programs write it,
+NAME.sheet, NAME.amend (a change) and NAME.changes (what it changes).
+"""
+
+import os
+import sys
+
+sys.dont_write_bytecode = True  # leave no cache beside the sources
+
+import icu2003
+import junctions
+
+APPROACHES = ("EB", "WB", "NB", "SB")
+PAIRS = ("EB-WB", "NB-SB")
+GROUPS = [a + g for a in APPROACHES for g in "LTR"] + list(APPROACHES) + ["junction"]
+MOVEMENT_KINDS = ("lanes", "volume", "ideal-flow", "lost-time", "minimum-green")
+APPROACH_KINDS = ("shared-lane", "pedestrians", "push-button", "pedestrian-time", "free-right")
+MOVEMENT_USUAL = (0, 0, 1900, 4000, 4000)
+APPROACH_USUAL = (0, 0, 0, 0, 0)
+
+
+# ---------------------------------------------------------------- entries by name
+
+def kinds_of(group):
+    """The names of a group's entries."""
+    if group < 12:
+        return MOVEMENT_KINDS
+    return APPROACH_KINDS if group < 16 else ("cycle",)
+
+
+def entry_name(entry):
+    group = entry // 5
+    return GROUPS[group] + " " + kinds_of(group)[entry % 5]
+
+
+NAMED = {tuple(entry_name(i).split()): i for i in range(81)}
+KINDS = {kind for _, kind in NAMED}
+TEXT_MOST = 65535
+USUAL = [MOVEMENT_USUAL[i % 5] for i in range(60)] + [APPROACH_USUAL[i % 5] for i in range(20)] + [120]
+
+
+# ---------------------------------------------------------------- a junction as text
+
+def write_text(entries):
+    """A line for each group with all its entries."""
+    out = []
+    for group, name in enumerate(GROUPS):
+        values = ["%s %d" % (kind, entries[5 * group + j]) for j, kind in enumerate(kinds_of(group))]
+        out.append(" ".join([name] + values) + "\n")
+    return "".join(out)
+
+
+def brief_text(title, entries):
+    """As a person types it: a comment, and what is not usual."""
+    out = ["# " + title + "\n"]
+    for group, name in enumerate(GROUPS):
+        given = ["%s %d" % (kind, entries[5 * group + j]) for j, kind in enumerate(kinds_of(group))
+                 if entries[5 * group + j] != USUAL[5 * group + j] or group == 16]
+        if given:
+            out.append(" ".join([name] + given) + "\n")
+    return "".join(out)
+
+
+class Wrong(Exception):
+    """The first thing wrong with a text: its byte, and what is said of it."""
+
+
+def words(data):
+    """(place, word) of each word of the text."""
+    place, n = 0, len(data)
+    while place < n:
+        byte = data[place]
+        if byte in b" \t\r\n":
+            place += 1
+        elif byte == ord("#"):
+            while place < n and data[place] != 10:
+                place += 1
+        else:
+            end = place
+            while end < n and data[end] not in b" \t\r\n#":
+                end += 1
+            yield place, data[place:end]
+            place = end
+
+
+def parse(data):
+    """(entries, places of their values), or Wrong."""
+    entries, places = list(USUAL), {}
+    group = wanted = None
+    for place, word in words(data):
+        name = word.decode("latin-1")
+        if wanted is not None:
+            if not all(48 <= b <= 57 for b in word) or int(word) >= 2**32:
+                raise Wrong(place, "a whole number is expected here")
+            entries[wanted], places[wanted] = int(word), place
+            wanted = None
+        elif name in GROUPS:
+            group = name
+        elif name in KINDS:
+            if group is None:
+                raise Wrong(place, "name a movement, an approach or the junction before its entries")
+            if (group, name) not in NAMED:
+                raise Wrong(place, "what was named before has no such entry")
+            wanted = NAMED[group, name]
+            if wanted in places:
+                raise Wrong(place, "this entry was written before")
+        else:
+            raise Wrong(place, "no movement, approach or entry has this name")
+    if wanted is not None:
+        raise Wrong(len(data), "the text ends where a number is expected")
+    return entries, places
+
+
+def refusal_text(number, place):
+    """A refusal in words."""
+    if number == 3:
+        said = "%s is outside %d to %d" % ((entry_name(place),) + icu2003.limits(place))
+    elif number == 4:
+        said = "%s: a shared lane needs a through lane and no left lane beside it" % APPROACHES[place]
+    elif number == 5:
+        said = "%s: vehicles, and no lane that takes them" % GROUPS[place]
+    else:
+        said = "the study file is badly laid out at byte %d" % place
+    return "R%d: %s" % (number, said)
+
+
+def read_text(data):
+    """The entries of a text, or Wrong."""
+    if len(data) > TEXT_MOST:
+        raise Wrong(TEXT_MOST, "a text has at most 65535 bytes")
+    entries, places = parse(data)
+    number, place = icu2003.judge(entries)
+    if number:
+        entry = {3: place, 4: 60 + 5 * place, 5: 5 * place + 1}[number]
+        raise Wrong(places[entry], refusal_text(number, place))
+    return entries
+
+
+def said_of(data):
+    """What is said of a text that cannot be read, with line and column; nothing of another."""
+    try:
+        read_text(data)
+    except Wrong as wrong:
+        place, said = wrong.args
+        before = data[:place]
+        return "line %d, column %d: %s\n" % (before.count(b"\n") + 1, place - (before.rfind(b"\n") + 1) + 1, said)
+    return ""
+
+
+# ---------------------------------------------------------------- the worksheet
+
+# (number, name, line of the book, unit), section by section
+ENTRY_ROWS = [(g, name, book, unit) for g in "LTR" for name, book, unit in (
+    ("lanes", "2", "n"), ("volume", "4", "v"), ("ideal flow", "9", "v"), ("lost time", "10", "s"), ("minimum green", "11", "s"))]
+APPROACH_ROWS = [("A", name, book, unit) for name, book, unit in (
+    ("shared lane", "3", "n"), ("pedestrians", "5", "p"), ("push button", "6", "n"), ("pedestrian time", "7", "s"),
+    ("free right", "8", "n"))]
+LINE_ROWS = [(str(k), name, book, unit) for k, (name, book, unit) in enumerate((
+    ("volume, left", "13", "v"), ("volume, through", "13", "v"), ("volume, right", "13", "v"), ("turning factor", "16", "f"),
+    ("flow, left", "17", "v"), ("flow, through", "17", "v"), ("flow, right", "17", "v"),
+    ("flow, separate through", "18", "v"), ("flow, separate left", "18", "v"),
+    ("interference, right", "19", "s"), ("interference, through", "19", "s"), ("pedestrian frequency", "20", "f"),
+    ("reference, left", "22", "s"), ("reference, through", "22", "s"), ("reference, right", "22", "s"),
+    ("adjusted, left", "23", "s"), ("adjusted, through", "23", "s"), ("adjusted, right", "23", "s"),
+    ("volume of left lane", "25", "v"), ("lefts in left lane", "26", "f"), ("left equivalents", "27", "f"),
+    ("saturation A", "29", "v"), ("permitted option A", "30", "s"), ("permitted option B", "32-33", "s"),
+    ("permitted reference", "34", "s"), ("permitted adjusted", "35", "s"), ("split reference", "36-38", "s"),
+    ("split adjusted", "39", "s")), 1)]
+PAIR_ROWS = [("P", "protected", "40", "s"), ("P", "permitted", "41", "s"), ("P", "split", "42", "s"), ("P", "picked", "43", "*")]
+LAST_ROWS = [("J", "combined", "44", "s"), ("J", "required", "51", "s"), ("J", "ICU", "51", "%"), ("J", "level of service", "52", "A")]
+
+
+def title(row):
+    return "%-2s %-24s %5s %s" % row
+
+
+def decimal(value, digits):
+    """A whole number with its last digits after a point."""
+    return "%d.%0*d" % (value // 10**digits, digits, value % 10**digits)
+
+
+def shown(unit, value):
+    if unit == "s":
+        return "NA" if value == icu2003.BLANK else decimal(value, 3)
+    if unit == "f":
+        return decimal(value, 4)
+    if unit == "%":
+        return decimal(value, 1)
+    if unit == "A":
+        return "ABCDEFGH"[value]
+    if unit == "*":
+        return ("protected", "permitted", "split")[value]
+    return str(value)
+
+
+def printed(row, fields):
+    """A row of the sheet: its title and up to four fields."""
+    return title(row) + "".join("%11s" % f for f in fields).ljust(44) + "\n"
+
+
+def cell_rows():
+    """(row, the names of its columns, the cells in them), in the order of the worksheet."""
+    four, pair, one = list(APPROACHES), list(PAIRS), [""]
+    rows = [(r, four, [i + 15 * a for a in range(4)]) for i, r in enumerate(ENTRY_ROWS)]
+    rows += [(r, four, [60 + i + 5 * a for a in range(4)]) for i, r in enumerate(APPROACH_ROWS)]
+    rows += [(("J", "cycle, in seconds", "12", "n"), one, [80])]
+    rows += [(r, four, [icu2003.cell(a, k) for a in range(4)]) for k, r in enumerate(LINE_ROWS, 1)]
+    rows += [(r, pair, [193 + i, 197 + i]) for i, r in enumerate(PAIR_ROWS)]
+    rows += [(("R", "right turns", "45-50", "s"), four, [201, 202, 203, 204])]
+    return rows + [(r, one, [205 + i]) for i, r in enumerate(LAST_ROWS)]
+
+
+HEADINGS = {0: "entry", 21: "line", 49: "pair", 53: "junction"}
+
+
+def sheet_text(cells):
+    """The whole worksheet."""
+    out = []
+    for at, (row, columns, where) in enumerate(cell_rows()):
+        if at in HEADINGS:
+            out.append(printed(("no", HEADINGS[at], "book", ":"), columns))
+        fields = ["%11s" % shown(row[3], cells[i]) for i in where]
+        if row in PAIR_ROWS[:3]:
+            for k in (0, 1):
+                if cells[196 + 4 * k] == PAIR_ROWS.index(row) and fields[k][1] == " ":
+                    fields[k] = fields[k][0] + "*" + fields[k][2:]
+        out.append(printed(row, fields))
+    return "".join(out)
+
+
+def change_text(before, after):
+    """A row for each cell that changed, in the cells' order; the ICU and the letter in any case."""
+    found = {i: (row, name) for row, columns, where in cell_rows() for name, i in zip(columns, where)}
+    out = [printed(("no", "changed cell", "book", ":"), ["where", "before", "after"])]
+    for i in range(209):
+        if before[i] != after[i] or i >= 207:
+            row, name = found[i]
+            out.append(printed(row, [name, shown(row[3], before[i]), shown(row[3], after[i])]))
+    return "".join(out)
+
+
+# ---------------------------------------------------------------- the samples
+
+AMENDMENTS = {
+    "k1": "EBT volume 450",
+    "k2": "EBL volume 140",
+    "k3": "EB pedestrians 0",
+    "k4": "NBT volume 300",
+    "k7": "WBT volume 121",
+    "k8": "WBT volume 120",
+    "k9": "EBL volume 60",
+    "k10": "EBL volume 59",
+    "book1": "NBR volume 150",
+    "book2": "EB free-right 1",
+}
+
+TITLES = {
+    "k1": "K1: a left and a through lane on each approach",
+    "k2": "K2: one shared lane on each approach",
+    "k3": "K3: K1 with 60 people an hour and a pedestrian time of 40 s",
+    "k4": "K4: K1 without vehicles",
+    "k7": "K7: K1 with 120 vehicles through from the west bound side",
+    "k8": "K8: K1 with 121 vehicles through from the west bound side",
+    "k9": "K9: K1 with 59 lefts eastbound",
+    "k10": "K10: K1 with 60 lefts eastbound",
+    "book1": "The book's first example",
+    "book2": "The book's second example",
+}
+
+
+def samples():
+    """(name, entries) of the ten junctions."""
+    named = junctions.k_junctions() + junctions.book_examples()
+    return list(zip(TITLES, (entries for _, entries in named)))
+
+
+def put(outdir, name, text):
+    with open(os.path.join(outdir, name), "w", newline="\n") as f:
+        f.write(text)
+
+
+def main(outdir):
+    os.makedirs(outdir, exist_ok=True)
+    for name, entries in samples():
+        typed = brief_text(TITLES[name], entries)
+        assert read_text(typed.encode()) == read_text(write_text(entries).encode()) == entries
+        before = icu2003.fill(entries)
+        after = list(before)
+        group, kind, value = AMENDMENTS[name].split()
+        answer = icu2003.amend(after, NAMED[group, kind], int(value))
+        put(outdir, name + ".txt", typed)
+        put(outdir, name + ".full", write_text(entries))
+        put(outdir, name + ".sheet", sheet_text(before))
+        put(outdir, name + ".amend", AMENDMENTS[name] + "\n")
+        put(outdir, name + ".changes", change_text(before, after) if answer == (0, 0) else refusal_text(*answer) + "\n")
+
+
+if __name__ == "__main__":
+    if len(sys.argv) != 2:
+        sys.exit("usage: table.py OUTDIR")
+    main(sys.argv[1])
