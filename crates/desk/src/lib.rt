@@ -1,7 +1,9 @@
 // What the engineers' programs share: arguments and files to entries, and refusals to standard error. What the system
 // reads or writes, no promise can say; the texts in between are proved calls'.
 ghost use mathlib.Core.Path.{_≡_};
+ghost use lib.ListN.{take};
 ghost use Rattle.study.specs.Study.{fileBytes};
+ghost use Rattle.desk.specs.Desk.{siteOf, withSite};
 use answers::Answer;
 use files::Input;
 use libc::STDERR_FILENO;
@@ -89,9 +91,10 @@ pub fn entry_in(argument: usize, after: usize) -> u32 {
     names::entry_named(&group[..group_size], &kind[..kind_size])
 }
 
-// The site that an argument names, from 1, as a study counts it, from 0; past any site, if it names none.
-pub fn site_in(argument: usize) -> u32 {
-    let number = number_in(argument);
+// A site's number from 1, as a study counts it, from 0; past any site, if there can be none.
+fn site_of(number: u64) -> u32
+    ensures { λ r. ⌜ r ≡ siteOf number ⌝ }
+{
     if number == 0 {
         return 4_294_967_295;
     }
@@ -99,6 +102,11 @@ pub fn site_in(argument: usize) -> u32 {
         return 4_294_967_295;
     }
     (number - 1) as u32
+}
+
+// The site that an argument names.
+pub fn site_in(argument: usize) -> u32 {
+    site_of(number_in(argument))
 }
 
 // Reads the entries of the site that an argument names; whether there is one.
@@ -118,7 +126,9 @@ pub fn read_site(file: &[u8], argument: usize, entries: &mut [u32; 81]) -> bool 
 }
 
 // Puts a site's entries after those of the sites before it, where there is room for them.
-pub fn put_site(all: &mut [u32], site: u32, entries: &[u32]) {
+pub fn put_site(all: &mut [u32], site: u32, entries: &[u32])
+    ensures { λ _. ⌜ now (all .exit) ≡ withSite (now (all .entry)) site (now (entries .entry)) ⌝ }
+{
     let at = 81 * site as usize;
     if at < all.len() {
         if entries.len() <= all.len() - at {
@@ -155,7 +165,9 @@ pub fn write_study(argument: usize, sites: u32, all: &[u32]) {
 }
 
 // The front of the entries; all of them, where they are fewer.
-fn front_of(all: &[u32], count: usize) -> &[u32] {
+fn front_of(all: &[u32], count: usize) -> &[u32]
+    ensures { λ r. ⌜ now r ≡ take count (now (all .entry)) ⌝ }
+{
     if count < all.len() {
         return &all[..count];
     }
