@@ -1,4 +1,4 @@
-// Files and arguments in lent areas. What the system reads or writes, no promise can say; what is read lies within its area.
+// Files in lent areas. What the system reads or writes, no promise can say; what is read lies within its area.
 ghost use mathlib.Core.Path.{_≡_};
 ghost use lib.ListN.{length, take};
 ghost use Rattle.files.specs.Input.{Within};

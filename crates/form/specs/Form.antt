@@ -100,7 +100,8 @@ infix 40 _from_by_columns_
 abbrev pub _from_by_columns_ : ℕ → ℕ → ℕ → ℕ → Section
 row from cell by step columns wide = record { row = row; cell = cell; step = step; columns = wide }
 
--- the sections of rows: the first row, the cell in its first column, the step to the next column's, and the columns.
+-- "The sheet is 81 entries, 28 lines of each approach, 4 cells of each pair, the last 8."
+-- The sections of rows: the first row, the cell in its first column, the step to the next column's, and the columns.
 -- The cells of a column stand one after the other, a row each.
 abbrev pub movements : Section
 movements = 1 from 0 by 15 columns 4

@@ -3,8 +3,6 @@ ghost use mathlib.Core.Path.{_≡_};
 ghost use Prim.Native.Nat.{_-_, _≤_, _<_};
 ghost use Rattle.form.specs.Form.{rowRoom, titleByte, unitOf, sectionBy, sectionAt, sectionOf, Small, cellIn, rowOf, columnOf};
 
-pub const ROWS: usize = 62;
-
 pub const TITLE_WIDTH: usize = 35;
 
 // Each row: its number in the rules, its name, its line in the book and its unit.

@@ -95,6 +95,7 @@ rowOf word = foundIn word wordCount
 abbrev pub classOf : ℕ → ℕ
 classOf group = cond (ltb group 12) 0 (cond (ltb group 16) 1 2)
 
+-- "Movement m has entries 5m to 5m+4", "approach a has 60+5a onward", "entry 80 is the cycle":
 -- each group's entries stand five apart, and each class has its own five kinds (the junction, one)
 abbrev pub hasKind : ℕ → ℕ → Bool
 hasKind group kind = eqb (kind / 5) (classOf group)

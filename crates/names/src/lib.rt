@@ -7,8 +7,6 @@ ghost use Rattle.names.specs.Names.{wordCount, wordWidth, wordByte, word
 
 pub const GROUPS: u32 = 17;
 
-pub const KINDS: u32 = 11;
-
 pub const WORDS: u32 = 28;
 
 pub const WIDTH: usize = 16;
