@@ -18,10 +18,10 @@ use Rattle.entries.proofs.Laws.{accepted-count, neither}
 use Rattle.procedure.specs.Sheet.{sheet}
 use Rattle.sheet.specs.Fill.{sheetAnswer}
 use Rattle.sheet.proofs.Laws.{sheet-accepted}
-use Rattle.reach.specs.Reach.{reached, merged, mergedFrom}
-use Rattle.reach.proofs.Cells.{sheet-length, sheet-entries}
-use Rattle.reach.proofs.Merging.{length-merged, merged-cell}
-use Rattle.reach.proofs.Untouched.{fresh-where-reached}
+use Rattle.amend_reach.specs.Reach.{reached, merged, mergedFrom}
+use Rattle.amend_reach.proofs.Cells.{sheet-length, sheet-entries}
+use Rattle.amend_reach.proofs.Merging.{length-merged, merged-cell}
+use Rattle.amend_reach.proofs.Untouched.{fresh-where-reached}
 use Rattle.amend.specs.Amend.{entriesWith, entryAnswer, amendAnswer, amended, Change, amendedBy, entriesBy, reachedBy}
 
 -- ENTRY is not answered only of 0 to 80

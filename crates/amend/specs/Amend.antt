@@ -11,7 +11,7 @@ use Rattle.entries.specs.Layout.{entryCount}
 use Rattle.entries.specs.Judging.{judged}
 use Rattle.procedure.specs.Sheet.{sheet}
 use Rattle.sheet.specs.Fill.{sheetAnswer}
-use Rattle.reach.specs.Reach.{reached, merged}
+use Rattle.amend_reach.specs.Reach.{reached, merged}
 
 -- the entries of a sheet d "as they would stand" with entry i changed to v
 unfoldable pub entriesWith : List ℕ → ℕ → ℕ → List ℕ

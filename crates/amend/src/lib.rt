@@ -21,7 +21,7 @@ fn entries_with(sheet: &[u32], entry: usize, value: u32) -> [u32; 81]
     ensures { λ r. ⌜ r ≡ entriesWith (now (sheet .entry)) entry value ⌝ }
 {
     let mut entries = [0u32; 81];
-    cells::put(&mut entries, 0, &sheet[..81]);
+    lists::put(&mut entries, 0, &sheet[..81]);
     entries[entry] = value;
     entries
 }
@@ -47,6 +47,6 @@ pub fn amend(sheet: &mut [u32], entry: u32, value: u32) -> Answer
     };
     let mut fresh = [0u32; 209];
     sheet::write_fresh(&entries, &mut fresh);
-    reach::renew(sheet, &fresh, place);
+    amend_reach::renew(sheet, &fresh, place);
     Answer::Accepted
 }

@@ -4,17 +4,33 @@ use mathlib.Core.Bool.{Bool, true, false, cond}
 use Prim.Native.Nat.{ℕ, zero, suc}
 use Rattle.answers.specs.declared.Refusal.{Refusal}
 use Rattle.answers.specs.declared.Refusal.the-variants.{Size, Entry, Range, Shared, NoLane, File}
+use Rattle.answers.specs.declared.Place.{Place}
+use Rattle.answers.specs.declared.Place.the-variants.{OfNothing, OfEntries, OfApproaches, OfMovements, OfBytes}
 use Rattle.answers.specs.declared.Answer.{Answer}
 use Rattle.answers.specs.declared.Answer.the-variants.{Accepted, Refused}
 
--- no. and name of each row
+pub record Row : Type 0 where
+  pub number : ℕ
+  pub place : Place
+
+infix 40 _at_
+abbrev pub _at_ : ℕ → Place → Row
+number at place = record { number = number; place = place }
+
+-- the table: a row for each name, its number and what its place is a place of
+abbrev pub rowOf : Refusal → Row
+rowOf Size = 1 at OfNothing
+rowOf Entry = 2 at OfNothing
+rowOf Range = 3 at OfEntries
+rowOf Shared = 4 at OfApproaches
+rowOf NoLane = 5 at OfMovements
+rowOf File = 6 at OfBytes
+
 abbrev pub refusalNumber : Refusal → ℕ
-refusalNumber Size = 1
-refusalNumber Entry = 2
-refusalNumber Range = 3
-refusalNumber Shared = 4
-refusalNumber NoLane = 5
-refusalNumber File = 6
+refusalNumber why = rowOf why .number
+
+abbrev pub refusalPlace : Refusal → Place
+refusalPlace why = rowOf why .place
 
 abbrev pub numberOf : Answer → ℕ
 numberOf Accepted = 0

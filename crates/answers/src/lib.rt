@@ -1,6 +1,6 @@
 // What a call answers: accepted, or a refusal with its place.
 ghost use mathlib.Core.Path.{_≡_};
-ghost use Rattle.answers.specs.Answers.{refusalNumber, numberOf, placeOf};
+ghost use Rattle.answers.specs.Answers.{refusalNumber, refusalPlace, numberOf, placeOf};
 
 // Why a call says no, in the order in which the reasons are asked.
 pub enum Refusal {
@@ -10,6 +10,15 @@ pub enum Refusal {
     Shared,
     NoLane,
     File,
+}
+
+// What a refusal's place counts.
+pub enum Place {
+    OfNothing,
+    OfEntries,
+    OfApproaches,
+    OfMovements,
+    OfBytes,
 }
 
 pub enum Answer {
@@ -29,6 +38,20 @@ impl Refusal {
             Refusal::Shared => 4,
             Refusal::NoLane => 5,
             Refusal::File => 6,
+        }
+    }
+
+    // What the refusal's place counts.
+    pub fn counts(self) -> Place
+        ensures { λ r. ⌜ r ≡ refusalPlace self ⌝ }
+    {
+        match self {
+            Refusal::Size => Place::OfNothing,
+            Refusal::Entry => Place::OfNothing,
+            Refusal::Range => Place::OfEntries,
+            Refusal::Shared => Place::OfApproaches,
+            Refusal::NoLane => Place::OfMovements,
+            Refusal::File => Place::OfBytes,
         }
     }
 }

@@ -1,6 +1,6 @@
 -- What acceptance gives: the laws that every caller of the judging leans on, over the index, the approach and the movement.
 use mathlib.Core.Path.{_≡_, refl, sym, _∙_}
-use mathlib.Core.Bool.{Bool, true, false, not, cond, _&&_, _||_, and-assoc, and-true, and-false}
+use mathlib.Core.Bool.{Bool, true, false, not, cond, _&&_, and-assoc, and-true, and-false}
 use mathlib.Core.List.{List}
 use Prim.Native.Nat.{ℕ, zero, suc, _+_, _-_, _*_, _/_, _%_, _≤_, _<_}
 use native.Mathlib.Nat.{zero-add, add-zero, add-suc, suc-add}
@@ -9,28 +9,30 @@ use lib.ListN.{length, getD}
 use lib.Dec.{leb, ltb, eqb, lit≤}
 use borrow.Author.Tests.{eqb-true, eqb-false, leb-true, ltb-false, lt-ltb, le-ltb, eq-eqb, not-true, not-false}
 use Rattle.answers.specs.Answers.{_then_, lowest}
-use Rattle.answers.specs.declared.Refusal.{Refusal}
-use Rattle.answers.specs.declared.Refusal.the-variants.{Size, Entry, Range, Shared, NoLane, File}
+use Rattle.answers.specs.declared.Refusal.the-variants.{Size}
 use Rattle.answers.specs.declared.Answer.the-variants.{Accepted}
 use Rattle.answers.proofs.Laws.{both-accepted, not-refused, none-bad}
 use Rattle.kinds.specs.declared.Kind.{Kind}
 use Rattle.kinds.specs.Kinds.{Within, limitsOf, inRange, kindAt, movementKind, approachKind, groupOf}
-use Rattle.entries.specs.Layout.{left, through, lanes, volume, shared, movementEntry, approachEntry}
-use Rattle.entries.specs.Judging.{sizeAnswer, eachAnswer, countOf, faulty, outside, allInRange, Alike, badlyShared, unserved, otherLanes, judged}
+use Rattle.lists.proofs.Tests.{both-true, not-both, neither}
+use Rattle.layout.specs.Entries.{approachCount, groupCount, movementCount, movementEntries, approachesFrom, approachEntries, cycleEntry, entryCount}
+use Rattle.layout.specs.Entries.{movementPlace, approachPlace, left, through}
+use Rattle.entries.specs.declared.Fault.{Fault}
+use Rattle.entries.specs.declared.Fault.the-variants.{Range, Shared, NoLane}
+use Rattle.entries.specs.Layout.{lanes, volume, shared, movementEntry, approachEntry}
+use Rattle.entries.specs.Judging.{sizeAnswer, eachAnswer, refusalOf, countOf, faulty, outside, badlyShared, unserved, otherLanes, judged}
+use Rattle.entries.specs.Working.{allInRange, Alike}
 
--- no reason is asked of more than the entries
-pub count-most : (why : Refusal) → countOf why ≤ 81
-count-most Size = lit≤ tt
-count-most Entry = lit≤ tt
+-- no fault is looked for in more than the entries
+pub count-most : (fault : Fault) → countOf fault ≤ entryCount
 count-most Range = lit≤ tt
 count-most Shared = lit≤ tt
 count-most NoLane = lit≤ tt
-count-most File = lit≤ tt
 
--- SIZE is not answered only of 81 numbers
-pub size-accepted : (e : List ℕ) → sizeAnswer e ≡ Accepted → length e ≡ 81
+-- SIZE is not answered only of as many numbers as there are entries
+pub size-accepted : (e : List ℕ) → sizeAnswer e ≡ Accepted → length e ≡ entryCount
 unfolding sizeAnswer
-size-accepted e h = eqb-true (length e) 81 (not-false _ (not-refused (not (eqb (length e) 81)) Size 0 h))
+size-accepted e h = eqb-true (length e) entryCount (not-false _ (not-refused (not (eqb (length e) entryCount)) Size 0 h))
 
 within : (k : Kind) (x : ℕ) → inRange k x ≡ true → Within k x
 unfolding inRange
@@ -41,28 +43,24 @@ within k x h = go (leb (limitsOf k .least) x) refl h
     go false p q = absurd (let z : _≡_ {A = ℕ} 0 1 = cc in omega arith)
 
 -- the kind at a place, by the movement or the approach
-kind-of-movement : (m j : ℕ) → m < 12 → j < 5 → kindAt (5 * m + j) ≡ movementKind j
+pub kind-of-movement : (m j : ℕ) → m < movementCount → j < movementEntries → kindAt (movementPlace m j) ≡ movementKind j
 unfolding kindAt
 kind-of-movement m j h k =
-    let e : (5 * m + j) % 5 ≡ j = omega arith in
-    rw (lt-ltb (5 * m + j) 60 (omega arith), e)
+    let e : movementPlace m j % movementEntries ≡ j = omega arith in
+    rw (lt-ltb (movementPlace m j) approachesFrom (omega arith), e)
 
-kind-of-approach : (a j : ℕ) → a < 4 → j < 5 → kindAt (60 + 5 * a + j) ≡ approachKind j
+pub kind-of-approach : (a j : ℕ) → a < approachCount → j < approachEntries → kindAt (approachPlace a j) ≡ approachKind j
 unfolding kindAt
 kind-of-approach a j h k =
-    let e : (60 + 5 * a + j - 60) % 5 ≡ j = omega arith in
-    rw (le-ltb (60 + 5 * a + j) 60 (omega arith), lt-ltb (60 + 5 * a + j) 80 (omega arith), e)
+    let e : (approachPlace a j - approachesFrom) % approachEntries ≡ j = omega arith in
+    rw (le-ltb (approachPlace a j) approachesFrom (omega arith), lt-ltb (approachPlace a j) cycleEntry (omega arith), e)
 
--- so the fives of entries repeat their kinds
-pub movements-alike : (m : ℕ) → m < 12 → Alike (5 * m) 0
+-- so the groups of entries repeat their kinds
+pub movements-alike : (m : ℕ) → m < movementCount → Alike movementEntries (movementEntries * m) 0
 movements-alike m h j k = kind-of-movement m j h k ∙ sym (kind-of-movement 0 j (lit≤ tt) k)
 
-pub approaches-alike : (a : ℕ) → a < 4 → Alike (60 + 5 * a) 60
+pub approaches-alike : (a : ℕ) → a < approachCount → Alike approachEntries (approachesFrom + approachEntries * a) approachesFrom
 approaches-alike a h j k = kind-of-approach a j h k ∙ sym (kind-of-approach 0 j (lit≤ tt) k)
-
-both : (a b : Bool) → (a && b) ≡ true → (a ≡ true) × (b ≡ true)
-both true b e = (refl, e)
-both false b e = absurd (let z : _≡_ {A = ℕ} 0 1 = cc in omega arith)
 
 -- the acceptance of the n entries from i on, by parts: b entries at k were asked, and r was told of them
 module _ (e : List ℕ) where
@@ -94,21 +92,12 @@ module _ (e : List ℕ) where
       sym (rw (whole, in-parts i (k - i) (b + after), here, in-parts k b after, sym told ∙ not-true _ bad, and-false (allInRange e i (k - i))))
 
   -- entries that are all in range leave nothing to refuse
-  pub all-accepted : (i n : ℕ) → allInRange e i n ≡ true → lowest (faulty e Range) Range i n ≡ Accepted
+  pub all-accepted : (i n : ℕ) → allInRange e i n ≡ true → lowest (faulty e Range) (refusalOf Range) i n ≡ Accepted
   unfolding allInRange outside lowest
   all-accepted i zero h = refl
   all-accepted i (suc n) h =
-      let two : (inRange (kindAt i) (getD e i 0) ≡ true) × (allInRange e (suc i) n ≡ true) = both _ _ h in
+      let two : (inRange (kindAt i) (getD e i 0) ≡ true) × (allInRange e (suc i) n ≡ true) = both-true _ _ h in
       rw (two .0) (all-accepted (suc i) n (two .1))
-
--- of two tests that do not both hold, the second fails where the first holds
-not-both : (a b : Bool) → (a && b) ≡ false → a ≡ true → b ≡ false
-not-both true b e h = e
-not-both false b e h = absurd (let z : _≡_ {A = ℕ} 0 1 = cc in omega arith)
-
-pub neither : (a b : Bool) → (a || b) ≡ false → (a ≡ false) × (b ≡ false)
-neither true b e = absurd (let z : _≡_ {A = ℕ} 0 1 = cc in omega arith)
-neither false b e = (refl, e)
 
 -- a shared lane leaves the left none of its own, and the through at least one
 pub record SharesWell (e : List ℕ) (a : ℕ) : Type 0 where
@@ -126,38 +115,42 @@ module _ (e : List ℕ) (ok : judged e ≡ Accepted) where
   last : (eachAnswer e Shared ≡ Accepted) × (eachAnswer e NoLane ≡ Accepted)
   last = both-accepted (eachAnswer e Shared) (eachAnswer e NoLane) (later .1)
 
-  fault-free : (why : Refusal) → eachAnswer e why ≡ Accepted → (i : ℕ) → i < countOf why → faulty e why i ≡ false
-  fault-free why h i p = rw zero-add at (none-bad (faulty e why) why 0 (countOf why) h i p)
+  fault-free : (fault : Fault) → eachAnswer e fault ≡ Accepted → (i : ℕ) → i < countOf fault → faulty e fault i ≡ false
+  fault-free fault h i p = rw zero-add at (none-bad (faulty e fault) (refusalOf fault) 0 (countOf fault) h i p)
 
-  -- there are 81
-  pub accepted-count : length e ≡ 81
+  -- there are as many as there should be
+  pub accepted-count : length e ≡ entryCount
   accepted-count = size-accepted e (parts .0)
 
   -- each entry is within its kind's limits
-  pub accepted-range : (i : ℕ) → i < 81 → Within (kindAt i) (getD e i 0)
+  pub accepted-range : (i : ℕ) → i < entryCount → Within (kindAt i) (getD e i 0)
   unfolding outside
   accepted-range i h = within (kindAt i) (getD e i 0) (not-false _ (fault-free Range (later .0) i h))
 
-  pub accepted-movement : (m j : ℕ) → m < 12 → j < 5 → Within (movementKind j) (movementEntry e m j)
+  pub accepted-movement : (m j : ℕ) → m < movementCount → j < movementEntries → Within (movementKind j) (movementEntry e m j)
   unfolding movementEntry
-  accepted-movement m j h k = rw (← kind-of-movement m j h k) (accepted-range (5 * m + j) (omega arith))
+  accepted-movement m j h k = rw (← kind-of-movement m j h k) (accepted-range (movementPlace m j) (omega arith))
 
-  pub accepted-approach : (a j : ℕ) → a < 4 → j < 5 → Within (approachKind j) (approachEntry e a j)
+  pub accepted-approach : (a j : ℕ) → a < approachCount → j < approachEntries → Within (approachKind j) (approachEntry e a j)
   unfolding approachEntry
-  accepted-approach a j h k = rw (← kind-of-approach a j h k) (accepted-range (60 + 5 * a + j) (omega arith))
+  accepted-approach a j h k = rw (← kind-of-approach a j h k) (accepted-range (approachPlace a j) (omega arith))
 
   -- shared implies no left lane and a through lane
-  pub accepted-shared : (a : ℕ) → a < 4 → shared e a ≡ 1 → SharesWell e a
+  pub accepted-shared : (a : ℕ) → a < approachCount → shared e a ≡ 1 → SharesWell e a
   unfolding badlyShared
   accepted-shared a h s =
-      let two : (ltb 0 (lanes e (left a)) ≡ false) × (eqb (lanes e (through a)) 0 ≡ false) = neither _ _ (not-both (eqb (shared e a) 1) _ (fault-free Shared (last .0) a h) (eq-eqb _ _ s)) in
-      record { no-left = omega (arith, ltb-false 0 (lanes e (left a)) (two .0)); a-through = omega (arith, eqb-false (lanes e (through a)) 0 (two .1)) }
+      let two : (ltb 0 (lanes e (left a)) ≡ false) × (eqb (lanes e (through a)) 0 ≡ false) =
+      neither _ _ (not-both (eqb (shared e a) 1) _ (fault-free Shared (last .0) a h) (eq-eqb _ _ s)) in
+      record {
+        no-left = omega (arith, ltb-false 0 (lanes e (left a)) (two .0));
+        a-through = omega (arith, eqb-false (lanes e (through a)) 0 (two .1));
+      }
 
   -- volume implies a lane that serves it
-  pub accepted-served : (m : ℕ) → m < 12 → 0 < volume e m → 0 < lanes e m + otherLanes e (m / 3) (groupOf m)
+  pub accepted-served : (m : ℕ) → m < movementCount → 0 < volume e m → 0 < lanes e m + otherLanes e (m / groupCount) (groupOf m)
   unfolding unserved
   accepted-served m h v = go (eqb (lanes e m) 0) refl (not-both (ltb 0 (volume e m)) _ (fault-free NoLane (last .1) m h) (lt-ltb _ _ v))
     where
-      go : (t : Bool) → eqb (lanes e m) 0 ≡ t → (t && eqb (otherLanes e (m / 3) (groupOf m)) 0) ≡ false → 0 < lanes e m + otherLanes e (m / 3) (groupOf m)
-      go true p q = omega (arith, eqb-false (otherLanes e (m / 3) (groupOf m)) 0 q)
+      go : (t : Bool) → eqb (lanes e m) 0 ≡ t → (t && eqb (otherLanes e (m / groupCount) (groupOf m)) 0) ≡ false → 0 < lanes e m + otherLanes e (m / groupCount) (groupOf m)
+      go true p q = omega (arith, eqb-false (otherLanes e (m / groupCount) (groupOf m)) 0 q)
       go false p q = omega (arith, eqb-false (lanes e m) 0 p)

@@ -2,36 +2,53 @@
 ghost use mathlib.Core.Path.{_≡_};
 ghost use Prim.Native.Nat.{_+_, _<_, _≤_};
 ghost use lib.ListN.{length};
-ghost use Rattle.answers.specs.declared.Refusal.the-variants.{Range};
-ghost use Rattle.entries.specs.Layout.{entryCount, movementEntry, approachEntry};
-ghost use Rattle.entries.specs.Judging.{sizeAnswer, outside, allInRange, Alike, badlyShared, otherLanes, unserved, countOf, faulty, eachAnswer, judged};
+ghost use Rattle.layout.specs.Entries.{approachCount, movementCount, movementEntries, approachEntries, entryCount};
+ghost use Rattle.entries.specs.Layout.{movementEntry, approachEntry, cycle};
+ghost use Rattle.entries.specs.Judging.{sizeAnswer, outside, badlyShared, otherLanes, unserved, refusalOf, countOf, faulty, eachAnswer, judged};
+ghost use Rattle.entries.specs.Working.{allInRange, Alike};
 use answers::Answer;
 use answers::Refusal;
 use kinds::Group;
 use kinds::Kind;
 
-pub const COUNT: usize = 81;
+// What judging can find wrong, in the order in which it is looked for.
+pub enum Fault {
+    // an entry outside its range
+    Range,
+    // a shared lane beside left lanes, or without a through lane
+    Shared,
+    // volume that no lane serves
+    NoLane,
+}
 
 // Entry number `place` of a movement.
 pub fn movement_entry(entries: &[u32], movement: usize, place: usize) -> u32
-    requires { ⌜ (length (now entries) ≡ entryCount) × (movement < 12) × (place < 5) ⌝ }
+    requires { ⌜ (length (now entries) ≡ entryCount) × (movement < movementCount) × (place < movementEntries) ⌝ }
     ensures { λ r. ⌜ r ≡ movementEntry (now (entries .entry)) movement place ⌝ }
 {
-    entries[5 * movement + place]
+    entries[layout::MOVEMENT_ENTRIES * movement + place]
 }
 
 // Entry number `place` of an approach.
 pub fn approach_entry(entries: &[u32], approach: usize, place: usize) -> u32
-    requires { ⌜ (length (now entries) ≡ entryCount) × (approach < 4) × (place < 5) ⌝ }
+    requires { ⌜ (length (now entries) ≡ entryCount) × (approach < approachCount) × (place < approachEntries) ⌝ }
     ensures { λ r. ⌜ r ≡ approachEntry (now (entries .entry)) approach place ⌝ }
 {
-    entries[60 + 5 * approach + place]
+    entries[layout::APPROACHES_FROM + layout::APPROACH_ENTRIES * approach + place]
+}
+
+// The cycle's entry.
+pub fn cycle_entry(entries: &[u32]) -> u32
+    requires { ⌜ length (now entries) ≡ entryCount ⌝ }
+    ensures { λ r. ⌜ r ≡ cycle (now (entries .entry)) ⌝ }
+{
+    entries[layout::CYCLE_ENTRY]
 }
 
 fn check_size(entries: &[u32]) -> Answer
     ensures { λ r. ⌜ r ≡ sizeAnswer (now (entries .entry)) ⌝ }
 {
-    if entries.len() != COUNT {
+    if entries.len() != layout::ENTRIES {
         return Answer::Refused(Refusal::Size, 0);
     }
     Answer::Accepted
@@ -44,15 +61,15 @@ fn is_outside(entries: &[u32], entry: usize) -> bool
     !Kind::at(entry).holds(entries[entry])
 }
 
-// Whether the five entries from `first` on are in range.
+// Whether the entries of a group, `count` from `first` on, are in range.
 //
 // Their kinds are read from `like` on, a constant at each call, so that the limits are constants there too.
-fn five_in_range(entries: &[u32], first: usize, like: usize) -> bool
-    requires { ⌜ (length (now entries) ≡ entryCount) × (first + 5 ≤ entryCount) × (like + 5 ≤ entryCount) × Alike first like ⌝ }
-    ensures { λ r. ⌜ r ≡ allInRange (now (entries .entry)) first 5 ⌝ }
+fn run_in_range(entries: &[u32], first: usize, like: usize, count: usize) -> bool
+    requires { ⌜ (length (now entries) ≡ entryCount) × (first + count ≤ entryCount) × (like + count ≤ entryCount) × Alike count first like ⌝ }
+    ensures { λ r. ⌜ r ≡ allInRange (now (entries .entry)) first count ⌝ }
 {
     let mut place = 0;
-    while place < 5 {
+    while place < count {
         if !Kind::at(like + place).holds(entries[first + place]) {
             return false;
         }
@@ -67,98 +84,114 @@ fn all_in_range(entries: &[u32]) -> bool
     ensures { λ r. ⌜ r ≡ allInRange (now (entries .entry)) 0 entryCount ⌝ }
 {
     let mut movement = 0;
-    while movement < 12 {
-        if !five_in_range(entries, 5 * movement, 0) {
+    while movement < layout::MOVEMENTS {
+        if !run_in_range(
+            entries,
+            layout::MOVEMENT_ENTRIES * movement,
+            0,
+            layout::MOVEMENT_ENTRIES,
+        ) {
             return false;
         }
         movement += 1;
     }
     let mut approach = 0;
-    while approach < 4 {
-        if !five_in_range(entries, 60 + 5 * approach, 60) {
+    while approach < layout::APPROACHES {
+        if !run_in_range(
+            entries,
+            layout::APPROACHES_FROM + layout::APPROACH_ENTRIES * approach,
+            layout::APPROACHES_FROM,
+            layout::APPROACH_ENTRIES,
+        ) {
             return false;
         }
         approach += 1;
     }
-    Kind::Cycle.holds(entries[80])
+    Kind::Cycle.holds(cycle_entry(entries))
 }
 
 fn is_badly_shared(entries: &[u32], approach: usize) -> bool
-    requires { ⌜ (length (now entries) ≡ entryCount) × (approach < 4) ⌝ }
+    requires { ⌜ (length (now entries) ≡ entryCount) × (approach < approachCount) ⌝ }
     ensures { λ r. ⌜ r ≡ badlyShared (now (entries .entry)) approach ⌝ }
 {
-    if approach_entry(entries, approach, 0) != 1 {
+    if approach_entry(entries, approach, layout::SHARED_NO) != 1 {
         return false;
     }
-    if 0 < movement_entry(entries, 3 * approach, 0) {
+    if 0 < movement_entry(entries, layout::GROUPS * approach, layout::LANES_NO) {
         return true;
     }
-    movement_entry(entries, 3 * approach + 1, 0) == 0
+    movement_entry(entries, layout::GROUPS * approach + 1, layout::LANES_NO) == 0
 }
 
 // Lanes that serve a group beside its own.
 fn other_lanes(entries: &[u32], approach: usize, group: Group) -> u32
-    requires { ⌜ (length (now entries) ≡ entryCount) × (approach < 4) ⌝ }
+    requires { ⌜ (length (now entries) ≡ entryCount) × (approach < approachCount) ⌝ }
     ensures { λ r. ⌜ r ≡ otherLanes (now (entries .entry)) approach group ⌝ }
 {
     match group {
-        Group::Left => approach_entry(entries, approach, 0),
+        Group::Left => approach_entry(entries, approach, layout::SHARED_NO),
         Group::Through => 0,
-        Group::Right => movement_entry(entries, 3 * approach + 1, 0),
+        Group::Right => movement_entry(entries, layout::GROUPS * approach + 1, layout::LANES_NO),
     }
 }
 
 fn is_unserved(entries: &[u32], movement: usize) -> bool
-    requires { ⌜ (length (now entries) ≡ entryCount) × (movement < 12) ⌝ }
+    requires { ⌜ (length (now entries) ≡ entryCount) × (movement < movementCount) ⌝ }
     ensures { λ r. ⌜ r ≡ unserved (now (entries .entry)) movement ⌝ }
 {
-    if movement_entry(entries, movement, 1) == 0 {
+    if movement_entry(entries, movement, layout::VOLUME_NO) == 0 {
         return false;
     }
-    if movement_entry(entries, movement, 0) != 0 {
+    if movement_entry(entries, movement, layout::LANES_NO) != 0 {
         return false;
     }
-    other_lanes(entries, movement / 3, Group::of(movement)) == 0
+    other_lanes(entries, movement / layout::GROUPS, Group::of(movement)) == 0
 }
 
-// How many entries, approaches or movements there are to be asked.
-fn count_of(why: Refusal) -> usize
-    ensures { λ r. ⌜ r ≡ countOf why ⌝ }
-{
-    match why {
-        Refusal::Range => COUNT,
-        Refusal::Shared => 4,
-        Refusal::NoLane => 12,
-        Refusal::Size => 0,
-        Refusal::Entry => 0,
-        Refusal::File => 0,
+impl Fault {
+    fn refusal(self) -> Refusal
+        ensures { λ r. ⌜ r ≡ refusalOf self ⌝ }
+    {
+        match self {
+            Fault::Range => Refusal::Range,
+            Fault::Shared => Refusal::Shared,
+            Fault::NoLane => Refusal::NoLane,
+        }
+    }
+
+    // How many entries, approaches or movements there are to be asked.
+    fn count(self) -> usize
+        ensures { λ r. ⌜ r ≡ countOf self ⌝ }
+    {
+        match self {
+            Fault::Range => layout::ENTRIES,
+            Fault::Shared => layout::APPROACHES,
+            Fault::NoLane => layout::MOVEMENTS,
+        }
     }
 }
 
-fn is_faulty(entries: &[u32], why: Refusal, index: usize) -> bool
-    requires { ⌜ (length (now entries) ≡ entryCount) × (index < countOf why) ⌝ }
-    ensures { λ r. ⌜ r ≡ faulty (now (entries .entry)) why index ⌝ }
+fn is_faulty(entries: &[u32], fault: Fault, index: usize) -> bool
+    requires { ⌜ (length (now entries) ≡ entryCount) × (index < countOf fault) ⌝ }
+    ensures { λ r. ⌜ r ≡ faulty (now (entries .entry)) fault index ⌝ }
 {
-    match why {
-        Refusal::Range => is_outside(entries, index),
-        Refusal::Shared => is_badly_shared(entries, index),
-        Refusal::NoLane => is_unserved(entries, index),
-        Refusal::Size => false,
-        Refusal::Entry => false,
-        Refusal::File => false,
+    match fault {
+        Fault::Range => is_outside(entries, index),
+        Fault::Shared => is_badly_shared(entries, index),
+        Fault::NoLane => is_unserved(entries, index),
     }
 }
 
-// The lowest entry, approach or movement that is to be refused for this reason.
-fn check_each(entries: &[u32], why: Refusal) -> Answer
+// The lowest entry, approach or movement that has this fault.
+fn check_each(entries: &[u32], fault: Fault) -> Answer
     requires { ⌜ length (now entries) ≡ entryCount ⌝ }
-    ensures { λ r. ⌜ r ≡ eachAnswer (now (entries .entry)) why ⌝ }
+    ensures { λ r. ⌜ r ≡ eachAnswer (now (entries .entry)) fault ⌝ }
 {
-    let count = count_of(why);
+    let count = fault.count();
     let mut index = 0;
     while index < count {
-        if is_faulty(entries, why, index) {
-            return Answer::Refused(why, index as u32);
+        if is_faulty(entries, fault, index) {
+            return Answer::Refused(fault.refusal(), index as u32);
         }
         index += 1;
     }
@@ -168,12 +201,12 @@ fn check_each(entries: &[u32], why: Refusal) -> Answer
 // The lowest entry outside its range, looked for only where there is one.
 fn check_ranges(entries: &[u32]) -> Answer
     requires { ⌜ length (now entries) ≡ entryCount ⌝ }
-    ensures { λ r. ⌜ r ≡ eachAnswer (now (entries .entry)) Range ⌝ }
+    ensures { λ r. ⌜ r ≡ eachAnswer (now (entries .entry)) Fault.Range ⌝ }
 {
     if all_in_range(entries) {
         return Answer::Accepted;
     }
-    check_each(entries, Refusal::Range)
+    check_each(entries, Fault::Range)
 }
 
 // The first refusal that applies to the entries, or acceptance.
@@ -188,9 +221,9 @@ pub fn judge(entries: &[u32]) -> Answer
     let Answer::Accepted = ranges else {
         return ranges;
     };
-    let shared = check_each(entries, Refusal::Shared);
+    let shared = check_each(entries, Fault::Shared);
     let Answer::Accepted = shared else {
         return shared;
     };
-    check_each(entries, Refusal::NoLane)
+    check_each(entries, Fault::NoLane)
 }

@@ -27,22 +27,22 @@ use Rattle.sheet.proofs.Fits.{sheet-fits}
 use Rattle.sheet.proofs.PairBlank.{PairBlank, pair-blank}
 use Rattle.amend.specs.Amend.{amendAnswer, amended, Change, amendedBy, entriesBy, reachedBy}
 use Rattle.amend.proofs.Laws.{amended-is-fresh, refused-stays, run-is-fresh, run-keeps}
-use Rattle.words.specs.Words.{AllBelow, over}
+use Rattle.lists.specs.Lists.{AllBelow, over}
 use Rattle.study.specs.Study.{judgement, countOf, siteEntriesAnswer, siteEntries, writeAnswer, fileOf, fileBytes, sitesIn, entriesUpTo}
-use Rattle.listing.specs.Listing.{listing, listAnswer}
+use Rattle.study_listing.specs.Listing.{listing, listAnswer}
 use Rattle.text.specs.Text.{Placed}
-use Rattle.reader.specs.Reader.{parsed, reading, keptUnlessRead}
-use Rattle.reader.specs.declared.Reading.{Reading}
-use Rattle.reader.specs.declared.Reading.the-variants.{Read, Misread, Refused as NotAccepted}
-use Rattle.writer.specs.Writer.{junctionText}
-use Rattle.worksheet.specs.Worksheet.{sheetText, changeText}
-use Rattle.form.proofs.Places.{OnPage, on-page}
-use Rattle.says.specs.Says.{answerText, readingText}
+use Rattle.text_reader.specs.Reader.{parsed, reading, keptUnlessRead}
+use Rattle.text_reader.specs.declared.Reading.{Reading}
+use Rattle.text_reader.specs.declared.Reading.the-variants.{Read, Misread, Refused as NotAccepted}
+use Rattle.text_writer.specs.Writer.{junctionText}
+use Rattle.page.specs.Worksheet.{sheetText, changeText}
+use Rattle.page_form.proofs.Places.{OnPage, on-page}
+use Rattle.text_refusals.specs.Says.{answerText, readingText}
 use Rattle.icu.specs.declared.IcuAnswer.{IcuAnswer}
 use Rattle.icu.specs.Told.{told}
 use Rattle.study.proofs.RoundTrip as round
 use Rattle.study.proofs.LongFile as long
-use Rattle.writer.proofs.RoundTrip as texts
+use Rattle.text_writer.proofs.RoundTrip as texts
 
 -- DEMAND 1. Every call finishes and asks nothing of its caller: the check proves that of every function, and no call of the
 -- crate icu has a `requires`. A refusal comes exactly when the table says: the answers are `fillAnswer`, `amendAnswer`,

@@ -2,11 +2,11 @@
 ghost use mathlib.Core.Path.{_≡_};
 ghost use lib.ListN.{length};
 ghost use Rattle.answers.specs.Answers.{left-by};
-ghost use Rattle.words.specs.Words.{over};
+ghost use Rattle.lists.specs.Lists.{over};
 ghost use Rattle.sheet.specs.Fill.{fillAnswer, filled};
 ghost use Rattle.amend.specs.Amend.{amendAnswer, amended};
 ghost use Rattle.study.specs.Study.{judgement, countOf, siteEntriesAnswer, siteEntries, writeAnswer, fileOf};
-ghost use Rattle.listing.specs.Listing.{listing, listAnswer};
+ghost use Rattle.study_listing.specs.Listing.{listing, listAnswer};
 ghost use Rattle.icu.specs.Told.{told};
 use answers::Answer;
 
@@ -84,5 +84,5 @@ pub extern "C" fn icu_study_list(file: &[u8], out: &mut [u8], written: &mut u32)
     ensures { λ r. ⌜ now (out .exit) ≡ left-by (listAnswer (now (file .entry)) (length (now (out .entry)))) (over (now (out .entry)) 0 (listing (now (file .entry)))) (now (out .entry)) ⌝ }
     ensures { λ r. ⌜ now (written .exit) ≡ left-by (listAnswer (now (file .entry)) (length (now (out .entry)))) (length (listing (now (file .entry)))) (now (written .entry)) ⌝ }
 {
-    tell(listing::list(file, out, written))
+    tell(study_listing::list(file, out, written))
 }

@@ -1,8 +1,8 @@
 // Changes one entry of a site of a study file, and prints every cell of its sheet that changes.
 use answers::Answer;
-use files::Input;
 use libc::STDERR_FILENO;
 use libc::STDOUT_FILENO;
+use program_files::Input;
 
 // Room for the entries of as many sites as a study file holds.
 const ALL_ENTRIES: usize = 14_580;
@@ -37,13 +37,13 @@ fn tell_use() {
     );
 }
 
-fn print_text(text: &[u8; worksheet::CHANGE_BYTES], size: usize) {
-    io::write_all(STDOUT_FILENO, files::front(text, size));
+fn print_text(text: &[u8; page::CHANGE_BYTES], size: usize) {
+    io::write_all(STDOUT_FILENO, program_files::front(text, size));
 }
 
 fn print_changes(before: &[u32], after: &[u32]) {
-    let mut text = [0u8; worksheet::CHANGE_BYTES];
-    let size = worksheet::changes(before, after, &mut text);
+    let mut text = [0u8; page::CHANGE_BYTES];
+    let size = page::changes(before, after, &mut text);
     print_text(&text, size);
 }
 
@@ -52,13 +52,13 @@ fn amend_sheet(entries: &[u32], change: Change) -> bool {
     let mut before = [0u32; sheet::COUNT];
     let filled = sheet::fill(entries, &mut before);
     let Answer::Accepted = filled else {
-        desk::refuse(filled);
+        program_inputs::refuse(filled);
         return false;
     };
     let mut after = before;
     let amended = amend::amend(&mut after, change.entry, change.value);
     let Answer::Accepted = amended else {
-        desk::refuse(amended);
+        program_inputs::refuse(amended);
         return false;
     };
     print_changes(&before, &after);
@@ -71,7 +71,7 @@ fn amend_entries(entries: &[u32; 81], change: Change) -> bool {
 
 fn amend_site(file: &[u8], change: Change) -> bool {
     let mut entries = [0u32; 81];
-    if !desk::read_site(file, 2, &mut entries) {
+    if !program_inputs::read_site(file, 2, &mut entries) {
         return false;
     }
     amend_entries(&entries, change)
@@ -90,7 +90,7 @@ fn copy_sites(file: &[u8], all: &mut [u32]) {
 fn copy_site(file: &[u8], site: u32, all: &mut [u32]) {
     let mut entries = [0u32; 81];
     study::site_entries(file, site, &mut entries);
-    desk::put_site(all, site, &entries);
+    program_inputs::put_site(all, site, &entries);
 }
 
 fn put_entry(all: &mut [u32], at: usize, value: u32) {
@@ -108,7 +108,7 @@ fn write_changed(file: &[u8], change: Change) {
         81 * change.site as usize + change.entry as usize,
         change.value,
     );
-    desk::write_study(6, study::count(file), &all);
+    program_inputs::write_study(6, study::count(file), &all);
 }
 
 fn amend_study(file: &[u8], change: Change, is_kept: bool) {
@@ -119,13 +119,13 @@ fn amend_study(file: &[u8], change: Change, is_kept: bool) {
     }
 }
 
-fn amend_from(area: &[u8; desk::AREA_BYTES], size: usize, change: Change, is_kept: bool) {
-    amend_study(files::front(area, size), change, is_kept);
+fn amend_from(area: &[u8; program_inputs::AREA_BYTES], size: usize, change: Change, is_kept: bool) {
+    amend_study(program_files::front(area, size), change, is_kept);
 }
 
 fn run(change: Change, is_kept: bool) {
-    let mut area = [0u8; desk::AREA_BYTES];
-    let input = desk::read_file(1, &mut area);
+    let mut area = [0u8; program_inputs::AREA_BYTES];
+    let input = program_inputs::read_file(1, &mut area);
     let Input::Read(size) = input else {
         return;
     };
@@ -138,19 +138,19 @@ fn main() {
         tell_use();
         return;
     }
-    let entry = desk::entry_in(3, 4);
-    let value = desk::number_in(5);
-    if entry == names::ENTRIES {
-        desk::complain(4, b"no entry has this name there\n");
+    let entry = program_inputs::entry_in(3, 4);
+    let value = program_inputs::number_in(5);
+    if entry == text_names::ENTRIES {
+        program_inputs::complain(4, b"no entry has this name there\n");
         tell_use();
         return;
     }
     if 4_294_967_295 < value {
-        desk::complain(5, b"a whole number is expected here\n");
+        program_inputs::complain(5, b"a whole number is expected here\n");
         return;
     }
     let change = Change {
-        site: desk::site_in(2),
+        site: program_inputs::site_in(2),
         entry,
         value: value as u32,
     };

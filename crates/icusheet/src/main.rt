@@ -1,8 +1,8 @@
 // Prints the worksheet of a junction: of its text, or of a site of a study file.
 use answers::Answer;
-use files::Input;
 use libc::STDERR_FILENO;
 use libc::STDOUT_FILENO;
+use program_files::Input;
 
 fn tell_use() {
     io::write_all(
@@ -15,7 +15,7 @@ fn tell_use() {
     );
 }
 
-fn print_text(text: &[u8; worksheet::SHEET_BYTES]) {
+fn print_text(text: &[u8; page::SHEET_BYTES]) {
     io::write_all(STDOUT_FILENO, text);
 }
 
@@ -24,11 +24,11 @@ fn print_sheet(entries: &[u32]) {
     let mut cells = [0u32; sheet::COUNT];
     let answer = sheet::fill(entries, &mut cells);
     let Answer::Accepted = answer else {
-        desk::refuse(answer);
+        program_inputs::refuse(answer);
         return;
     };
-    let mut text = [0u8; worksheet::SHEET_BYTES];
-    worksheet::print(&cells, &mut text);
+    let mut text = [0u8; page::SHEET_BYTES];
+    page::print(&cells, &mut text);
     print_text(&text);
 }
 
@@ -38,25 +38,25 @@ fn print_junction(entries: &[u32; 81]) {
 
 fn print_site(file: &[u8]) {
     let mut entries = [0u32; 81];
-    if desk::read_site(file, 2, &mut entries) {
+    if program_inputs::read_site(file, 2, &mut entries) {
         print_junction(&entries);
     }
 }
 
-fn print_from(area: &[u8; desk::AREA_BYTES], size: usize) {
-    print_site(files::front(area, size));
+fn print_from(area: &[u8; program_inputs::AREA_BYTES], size: usize) {
+    print_site(program_files::front(area, size));
 }
 
 fn of_text() {
     let mut entries = [0u32; 81];
-    if desk::read_junction(1, &mut entries) {
+    if program_inputs::read_junction(1, &mut entries) {
         print_junction(&entries);
     }
 }
 
 fn of_study() {
-    let mut area = [0u8; desk::AREA_BYTES];
-    let input = desk::read_file(1, &mut area);
+    let mut area = [0u8; program_inputs::AREA_BYTES];
+    let input = program_inputs::read_file(1, &mut area);
     let Input::Read(size) = input else {
         return;
     };

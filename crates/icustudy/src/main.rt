@@ -1,7 +1,7 @@
 // Makes a study file of junctions' texts, and prints a study's sites as texts.
-use files::Input;
 use libc::STDERR_FILENO;
 use libc::STDOUT_FILENO;
+use program_files::Input;
 
 // Room for the entries of as many sites as a study file holds.
 const ALL_ENTRIES: usize = 14_580;
@@ -31,7 +31,7 @@ fn read_texts(sites: u32, all: &mut [u32]) -> bool {
 
 fn read_text(argument: usize, site: u32, all: &mut [u32]) -> bool {
     let mut entries = [0u32; 81];
-    if !desk::read_junction(argument, &mut entries) {
+    if !program_inputs::read_junction(argument, &mut entries) {
         return false;
     }
     put_site(all, site, &entries);
@@ -39,13 +39,13 @@ fn read_text(argument: usize, site: u32, all: &mut [u32]) -> bool {
 }
 
 fn put_site(all: &mut [u32], site: u32, entries: &[u32; 81]) {
-    desk::put_site(all, site, entries);
+    program_inputs::put_site(all, site, entries);
 }
 
 fn make_of(sites: u32) {
     let mut all = [0u32; ALL_ENTRIES];
     if read_texts(sites, &mut all) {
-        desk::write_study(2, sites, &all);
+        program_inputs::write_study(2, sites, &all);
     }
 }
 
@@ -57,30 +57,30 @@ fn make(texts: usize) {
     make_of(texts as u32);
 }
 
-fn print_text(text: &[u8; writer::TEXT_BYTES], size: usize) {
-    io::write_all(STDOUT_FILENO, files::front(text, size));
+fn print_text(text: &[u8; text_writer::TEXT_BYTES], size: usize) {
+    io::write_all(STDOUT_FILENO, program_files::front(text, size));
 }
 
 fn print_entries(entries: &[u32; 81]) {
-    let mut text = [0u8; writer::TEXT_BYTES];
-    let size = writer::write(entries, &mut text);
+    let mut text = [0u8; text_writer::TEXT_BYTES];
+    let size = text_writer::write(entries, &mut text);
     print_text(&text, size);
 }
 
 fn show_site(file: &[u8]) {
     let mut entries = [0u32; 81];
-    if desk::read_site(file, 3, &mut entries) {
+    if program_inputs::read_site(file, 3, &mut entries) {
         print_entries(&entries);
     }
 }
 
-fn show_from(area: &[u8; desk::AREA_BYTES], size: usize) {
-    show_site(files::front(area, size));
+fn show_from(area: &[u8; program_inputs::AREA_BYTES], size: usize) {
+    show_site(program_files::front(area, size));
 }
 
 fn show() {
-    let mut area = [0u8; desk::AREA_BYTES];
-    let input = desk::read_file(2, &mut area);
+    let mut area = [0u8; program_inputs::AREA_BYTES];
+    let input = program_inputs::read_file(2, &mut area);
     let Input::Read(size) = input else {
         return;
     };

@@ -1,7 +1,10 @@
 -- The kinds of entries, their limits, and which kind stands at an entry's place.
 use mathlib.Core.Bool.{Bool, true, false, cond}
+use mathlib.Core.List.{List, [], _∷_}
 use Prim.Native.Nat.{ℕ, zero, suc, _-_, _%_, _≤_}
 use lib.Dec.{leb, ltb}
+use lib.ListN.{getD}
+use Rattle.layout.specs.Entries.{movementEntries, approachesFrom, approachEntries, cycleEntry, groupCount}
 use Rattle.kinds.specs.declared.Limits.{Limits}
 use Rattle.kinds.specs.declared.Group.{Group}
 use Rattle.kinds.specs.declared.Group.the-variants.{Left, Through, Right}
@@ -38,25 +41,19 @@ pub record Within (k : Kind) (x : ℕ) : Type 0 where
   pub least : limitsOf k .least ≤ x
   pub most : x ≤ limitsOf k .most
 
--- the five entries of a movement, in order
+-- "lanes, vehicles per hour, ideal flow, lost time, minimum green": the entries of a movement, in order
 abbrev pub movementKind : ℕ → Kind
-movementKind zero = Lanes
-movementKind (suc zero) = Volume
-movementKind (suc (suc zero)) = IdealFlow
-movementKind (suc (suc (suc zero))) = LostTime
-movementKind (suc (suc (suc (suc n)))) = MinimumGreen
+movementKind j = getD (Lanes ∷ Volume ∷ IdealFlow ∷ LostTime ∷ MinimumGreen ∷ []) j Cycle
 
--- the five entries of an approach, in order
+-- "shared left-through lane, pedestrians per hour, push button, pedestrian time, free right": those of an approach
 abbrev pub approachKind : ℕ → Kind
-approachKind zero = SharedLane
-approachKind (suc zero) = Pedestrians
-approachKind (suc (suc zero)) = PushButton
-approachKind (suc (suc (suc zero))) = PedestrianTime
-approachKind (suc (suc (suc (suc n)))) = FreeRight
+approachKind j = getD (SharedLane ∷ Pedestrians ∷ PushButton ∷ PedestrianTime ∷ FreeRight ∷ []) j Cycle
 
 -- "Movement m has entries 5m to 5m+4", "approach a has 60+5a onward", "entry 80 is the cycle"
 unfoldable pub kindAt : ℕ → Kind
-kindAt i = cond (ltb i 60) (movementKind (i % 5)) (cond (ltb i 80) (approachKind ((i - 60) % 5)) Cycle)
+kindAt i =
+    cond (ltb i approachesFrom) (movementKind (i % movementEntries))
+    (cond (ltb i cycleEntry) (approachKind ((i - approachesFrom) % approachEntries)) Cycle)
 
 -- "movements 0 to 11 are left, through, right of each"
 abbrev pub groupAt : ℕ → Group
@@ -65,4 +62,4 @@ groupAt (suc zero) = Through
 groupAt (suc (suc n)) = Right
 
 abbrev pub groupOf : ℕ → Group
-groupOf m = groupAt (m % 3)
+groupOf m = groupAt (m % groupCount)

@@ -3,6 +3,7 @@
 // A limit is typed here, at its kind, and everything else asks the kind.
 ghost use mathlib.Core.Path.{_≡_};
 ghost use Prim.Native.Nat.{_<_};
+ghost use Rattle.layout.specs.Entries.{movementEntries, approachEntries, groupCount};
 ghost use Rattle.kinds.specs.Kinds.{limitsOf, inRange, movementKind, approachKind, kindAt, groupAt, groupOf};
 use units::Ms;
 use units::Vph;
@@ -234,9 +235,9 @@ impl Kind {
         }
     }
 
-    // The kind of a movement's entry, by its place among the movement's five.
+    // The kind of a movement's entry, by its place among the movement's own.
     fn of_movement(place: usize) -> Kind
-        requires { ⌜ place < 5 ⌝ }
+        requires { ⌜ place < movementEntries ⌝ }
         ensures { λ r. ⌜ r ≡ movementKind place ⌝ }
     {
         match place {
@@ -248,9 +249,9 @@ impl Kind {
         }
     }
 
-    // The kind of an approach's own entry, by its place among the approach's five.
+    // The kind of an approach's own entry, by its place among them.
     fn of_approach(place: usize) -> Kind
-        requires { ⌜ place < 5 ⌝ }
+        requires { ⌜ place < approachEntries ⌝ }
         ensures { λ r. ⌜ r ≡ approachKind place ⌝ }
     {
         match place {
@@ -266,11 +267,11 @@ impl Kind {
     pub fn at(entry: usize) -> Kind
         ensures { λ r. ⌜ r ≡ kindAt entry ⌝ }
     {
-        if entry < 60 {
-            return Kind::of_movement(entry % 5);
+        if entry < layout::APPROACHES_FROM {
+            return Kind::of_movement(entry % layout::MOVEMENT_ENTRIES);
         }
-        if entry < 80 {
-            return Kind::of_approach((entry - 60) % 5);
+        if entry < layout::CYCLE_ENTRY {
+            return Kind::of_approach((entry - layout::APPROACHES_FROM) % layout::APPROACH_ENTRIES);
         }
         Kind::Cycle
     }
@@ -296,7 +297,7 @@ pub enum Group {
 
 impl Group {
     fn at(place: usize) -> Group
-        requires { ⌜ place < 3 ⌝ }
+        requires { ⌜ place < groupCount ⌝ }
         ensures { λ r. ⌜ r ≡ groupAt place ⌝ }
     {
         match place {
@@ -310,6 +311,6 @@ impl Group {
     pub fn of(movement: usize) -> Group
         ensures { λ r. ⌜ r ≡ groupOf movement ⌝ }
     {
-        Group::at(movement % 3)
+        Group::at(movement % layout::GROUPS)
     }
 }

@@ -3,15 +3,15 @@ use mathlib.Core.Path.{_≡_, refl}
 use Prim.Native.Nat.{ℕ}
 use Rattle.procedure.specs.declared.Approach.{Approach}
 use Rattle.procedure.specs.Lines.{firstLines, laterLines, lines}
-use Rattle.blocks.specs.declared.Volumes.{Volumes}
-use Rattle.blocks.specs.declared.Flows.{Flows}
-use Rattle.blocks.specs.declared.Walking.{Walking}
-use Rattle.blocks.specs.declared.Times.{Times}
-use Rattle.blocks.specs.declared.Lane.{Lane}
-use Rattle.blocks.specs.declared.Permitted.{Permitted}
-use Rattle.blocks.specs.declared.Split.{Split}
-use Rattle.blocks.specs.Blocks.{VolumesOf, FlowsOf, WalkingOf, TimesOf, LaneOf, PermittedOf, SplitOf}
-use Rattle.blocks.specs.Cells.{Bounded}
+use Rattle.line_stages.specs.declared.Volumes.{Volumes}
+use Rattle.line_stages.specs.declared.Flows.{Flows}
+use Rattle.line_stages.specs.declared.Walking.{Walking}
+use Rattle.line_stages.specs.declared.Times.{Times}
+use Rattle.line_stages.specs.declared.Lane.{Lane}
+use Rattle.line_stages.specs.declared.Permitted.{Permitted}
+use Rattle.line_stages.specs.declared.Split.{Split}
+use Rattle.line_stages.specs.Blocks.{VolumesOf, FlowsOf, WalkingOf, TimesOf, LaneOf, PermittedOf, SplitOf}
+use Rattle.line_stages.specs.Cells.{Bounded}
 use Rattle.lines.specs.Gathered.{gathered}
 
 module _ {s o : Approach} {CL : ℕ} {v : Volumes} {f : Flows} {w : Walking} {t : Times} {lane : Lane} {p : Permitted} {x : Split}

@@ -9,8 +9,8 @@ use lib.Dec.{eqb, leb, ltb, lit≤}
 use lib.ListN.{getD}
 use borrow.Author.Tests.{eqb-true, eqb-false, leb-true}
 use Rattle.units.specs.Rounding.{up, up-most}
-use Rattle.units.proofs.Table.{both-true}
-use Rattle.clock.proofs.Laws.{walkers-share}
+use Rattle.lists.proofs.Tests.{both-true}
+use Rattle.line_formulas.proofs.Laws.{walkers-share}
 use Rattle.kinds.specs.declared.Kind.the-variants.{Volume, LostTime, MinimumGreen, PedestrianTime}
 use Rattle.kinds.specs.declared.Group.{Group}
 use Rattle.kinds.specs.declared.Group.the-variants.{Left, Through, Right}
@@ -20,17 +20,17 @@ use Rattle.procedure.specs.Approach.{n, v, p, lost, green, crossing, hasButton}
 use Rattle.procedure.specs.Ranges.{Fair, FairCycle}
 use Rattle.procedure.specs.Lines.{BLANK, a, b, volume, vC, vST, fT, flow, sST, sSL, interference, F, part, reference, adjustedOf, weightedOf, weighted, adjusted}
 use Rattle.procedure.specs.Lines.{heaviest, vLL, q, single, leftShare, E, allowedA, allowedB, empty, line23, line24, line25, line26, line27, line28, lesser, firstLines, laterLines, lines}
-use Rattle.blocks.specs.declared.Volumes.{Volumes}
-use Rattle.blocks.specs.declared.Flows.{Flows}
-use Rattle.blocks.specs.declared.Walking.{Walking}
-use Rattle.blocks.specs.declared.Meeting.{Meeting}
-use Rattle.blocks.specs.Blocks.{VolumesOf, FlowsOf, WalkingOf, MeetingOf, Timely}
-use Rattle.blocks.specs.Cells.{Bounded}
-use Rattle.flows.proofs.Laws.{parted, factor-between, group-serving, straight-serving, lefts-serving, volumes-bounded, flows-bounded}
-use Rattle.walkers.proofs.Laws.{G-most, frequency-most, rights-within}
-use Rattle.times.proofs.Laws.{served-most, reference-most}
-use Rattle.lane.proofs.Laws.{heaviest-least, share-most, equivalent-room, Carried, carried}
-use Rattle.permitted.proofs.Laws.{single-folds, line23-most, line24-most, line23-timely, line24-timely, line25-timely}
+use Rattle.line_stages.specs.declared.Volumes.{Volumes}
+use Rattle.line_stages.specs.declared.Flows.{Flows}
+use Rattle.line_stages.specs.declared.Walking.{Walking}
+use Rattle.line_stages.specs.declared.Meeting.{Meeting}
+use Rattle.line_stages.specs.Blocks.{VolumesOf, FlowsOf, WalkingOf, MeetingOf, Timely}
+use Rattle.line_stages.specs.Cells.{Bounded}
+use Rattle.line_flows.proofs.Laws.{parted, factor-between, group-serving, straight-serving, lefts-serving, volumes-bounded, flows-bounded}
+use Rattle.line_walkers.proofs.Laws.{G-most, frequency-most, rights-within}
+use Rattle.line_times.proofs.Laws.{served-most, reference-most}
+use Rattle.line_left_lane.proofs.Laws.{heaviest-least, share-most, equivalent-room, Carried, carried}
+use Rattle.line_permitted.proofs.Laws.{single-folds, line23-most, line24-most, line23-timely, line24-timely, line25-timely}
 
 -- ---- cells and what they are at most
 

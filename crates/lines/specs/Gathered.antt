@@ -1,13 +1,13 @@
 -- The stages' numbers as the 28 cells of an approach, in the lines' order.
 use mathlib.Core.List.{List, [], _∷_}
 use Prim.Native.Nat.{ℕ}
-use Rattle.blocks.specs.declared.Volumes.{Volumes}
-use Rattle.blocks.specs.declared.Flows.{Flows}
-use Rattle.blocks.specs.declared.Walking.{Walking}
-use Rattle.blocks.specs.declared.Times.{Times}
-use Rattle.blocks.specs.declared.Lane.{Lane}
-use Rattle.blocks.specs.declared.Permitted.{Permitted}
-use Rattle.blocks.specs.declared.Split.{Split}
+use Rattle.line_stages.specs.declared.Volumes.{Volumes}
+use Rattle.line_stages.specs.declared.Flows.{Flows}
+use Rattle.line_stages.specs.declared.Walking.{Walking}
+use Rattle.line_stages.specs.declared.Times.{Times}
+use Rattle.line_stages.specs.declared.Lane.{Lane}
+use Rattle.line_stages.specs.declared.Permitted.{Permitted}
+use Rattle.line_stages.specs.declared.Split.{Split}
 
 abbrev pub gathered : Volumes → Flows → Walking → Times → Lane → Permitted → Split → List ℕ
 gathered v f w t lane p x =

@@ -2,15 +2,15 @@
 ghost use mathlib.Core.Path.{_≡_};
 ghost use Rattle.procedure.specs.Lines.{lines};
 ghost use Rattle.procedure.specs.Ranges.{Fair, FairCycle};
-ghost use Rattle.blocks.specs.Cells.{Bounded};
+ghost use Rattle.line_stages.specs.Cells.{Bounded};
 ghost use Rattle.lines.specs.Gathered.{gathered};
-use blocks::Flows;
-use blocks::Lane;
-use blocks::Permitted;
-use blocks::Split;
-use blocks::Times;
-use blocks::Volumes;
-use blocks::Walking;
+use line_stages::Flows;
+use line_stages::Lane;
+use line_stages::Permitted;
+use line_stages::Split;
+use line_stages::Times;
+use line_stages::Volumes;
+use line_stages::Walking;
 use procedure::Approach;
 
 // The stages' numbers, in the lines' order.
@@ -54,13 +54,13 @@ pub fn lines_of(s: Approach, o: Approach, cycle: u32) -> [u32; 28]
     requires { ⌜ Fair s × Fair o × FairCycle cycle ⌝ }
     ensures { λ r. ⌜ (r ≡ lines s o cycle) × Bounded r ⌝ }
 {
-    let v = flows::volumes_of(s);
-    let f = flows::flows_of(s, v);
-    let w = walkers::walking_of(s, v, cycle);
-    let t = times::times_of(s, v, f, w, cycle);
-    let m = permitted::meeting_of(s, o, flows::volumes_of(o));
-    let lane = lane::lane_of(s, o, v, f, m, cycle);
-    let p = permitted::permitted_of(s, o, v, f, w, m, lane, cycle);
-    let x = split::split_of(s, v, f, w, t, cycle);
+    let v = line_flows::volumes_of(s);
+    let f = line_flows::flows_of(s, v);
+    let w = line_walkers::walking_of(s, v, cycle);
+    let t = line_times::times_of(s, v, f, w, cycle);
+    let m = line_permitted::meeting_of(s, o, line_flows::volumes_of(o));
+    let lane = line_left_lane::lane_of(s, o, v, f, m, cycle);
+    let p = line_permitted::permitted_of(s, o, v, f, w, m, lane, cycle);
+    let x = line_split::split_of(s, v, f, w, t, cycle);
     gather(v, f, w, t, lane, p, x)
 }

@@ -1,8 +1,8 @@
 -- K1 to K10: every number that the paper gives comes out of the definitions.
 use mathlib.Core.Path.{_≡_, refl}
 use Rattle.units.specs.Rounding.{up}
-use Rattle.decay.specs.Decay.{term, turns, faded, decayNumber}
-use Rattle.factors.specs.Factors.{laneFactor}
+use Rattle.line_decay.specs.Decay.{term, turns, faded, decayNumber}
+use Rattle.line_factors.specs.Factors.{laneFactor}
 use Rattle.entries.specs.Layout.{movementEntry, approachEntry}
 use Rattle.procedure.specs.Approach.{readMovement, readApproach}
 use Rattle.procedure.specs.Lines.{a, b, volume, vST, turningT, fT, flowOf, flow, turningST, sST, sSL, G, interference, frequency, F, time, reference}

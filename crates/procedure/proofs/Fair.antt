@@ -12,7 +12,9 @@ use Rattle.answers.specs.declared.Answer.the-variants.{Accepted}
 use Rattle.kinds.specs.declared.Group.{Group}
 use Rattle.kinds.specs.declared.Group.the-variants.{Left, Through, Right}
 use Rattle.kinds.specs.Kinds.{Within, kindAt, movementKind, groupOf}
-use Rattle.entries.specs.Layout.{left, through, right, lanes, volume as counted, shared, movementEntry, approachEntry}
+use Rattle.layout.specs.Entries.{approachCount, groupCount, movementCount, movementEntries, approachEntries, cycleEntry, left, through, right}
+use Rattle.layout.specs.Entries.{lanesNo, volumeNo, idealNo, lostNo, greenNo, sharedNo, walkersNo, crossingNo}
+use Rattle.entries.specs.Layout.{lanes, volume as counted, shared, cycle, movementEntry, approachEntry}
 use Rattle.entries.specs.Judging.{judged, otherLanes}
 use Rattle.entries.proofs.Laws.{accepted-range, accepted-movement, accepted-approach, accepted-shared, accepted-served}
 use Rattle.kinds.specs.declared.Kind.the-variants.{Lanes, Volume, IdealFlow, LostTime, MinimumGreen}
@@ -20,7 +22,6 @@ use Rattle.procedure.specs.declared.Movement.{Movement}
 use Rattle.procedure.specs.Approach.{readMovement, readApproach, movementOf, n, v, isShared}
 use Rattle.procedure.specs.Lines.{a, b, volume}
 use Rattle.procedure.specs.Ranges.{FairGroup, Fair, FairCycle}
-use Rattle.procedure.specs.Sheet.{cycle}
 
 -- the movement of a group is one of the approach's three
 movementNo : ℕ → Group → ℕ
@@ -28,7 +29,7 @@ movementNo k Left = left k
 movementNo k Through = through k
 movementNo k Right = right k
 
-movement-few : (k : ℕ) → k < 4 → (g : Group) → movementNo k g < 12
+movement-few : (k : ℕ) → k < approachCount → (g : Group) → movementNo k g < movementCount
 unfolding movementNo
 movement-few k h Left = omega arith
 movement-few k h Through = omega arith
@@ -37,11 +38,11 @@ movement-few k h Right = omega arith
 -- and it is that group's movement of that approach
 group-of : (k : ℕ) (g : Group) → groupOf (movementNo k g) ≡ g
 unfolding movementNo
-group-of k Left = let r : 3 * k % 3 ≡ 0 = omega arith in rw r
-group-of k Through = let r : (3 * k + 1) % 3 ≡ 1 = omega arith in rw r
-group-of k Right = let r : (3 * k + 2) % 3 ≡ 2 = omega arith in rw r
+group-of k Left = let r : left k % groupCount ≡ 0 = omega arith in rw r
+group-of k Through = let r : through k % groupCount ≡ 1 = omega arith in rw r
+group-of k Right = let r : right k % groupCount ≡ 2 = omega arith in rw r
 
-approach-of : (k : ℕ) (g : Group) → movementNo k g / 3 ≡ k
+approach-of : (k : ℕ) (g : Group) → movementNo k g / groupCount ≡ k
 unfolding movementNo
 approach-of k Left = omega arith
 approach-of k Through = omega arith
@@ -60,25 +61,25 @@ positive : (t : Bool) (x y : ℕ) → 0 < cond t x y → ((t ≡ true) × (0 < x
 positive true x y h = inl (refl, h)
 positive false x y h = inr (refl, h)
 
-module _ (e : List ℕ) (ok : judged e ≡ Accepted) (k : ℕ) (few : k < 4) where
+module _ (e : List ℕ) (ok : judged e ≡ Accepted) (k : ℕ) (few : k < approachCount) where
   is-read : (g : Group) → movementOf (readApproach e k) g ≡ readMovement e (movementNo k g)
   unfolding readApproach movementNo
   is-read Left = refl
   is-read Through = refl
   is-read Right = refl
 
-  at : (g : Group) (j : ℕ) → j < 5 → Within (movementKind j) (movementEntry e (movementNo k g) j)
+  at : (g : Group) (j : ℕ) → j < movementEntries → Within (movementKind j) (movementEntry e (movementNo k g) j)
   at g j h = accepted-movement e ok (movementNo k g) j (movement-few k few g) h
 
   fair-group : (g : Group) → FairGroup (readApproach e k) g
   unfolding readMovement
   fair-group g =
       record {
-        lanes = subst (λ (m : Movement). Within Lanes (m .lanes .0)) (sym (is-read g)) (at g 0 (lit< tt));
-        counted = subst (λ (m : Movement). Within Volume (m .volume .0 .0)) (sym (is-read g)) (at g 1 (lit< tt));
-        ideal = subst (λ (m : Movement). Within IdealFlow (m .ideal .0 .0)) (sym (is-read g)) (at g 2 (lit< tt));
-        lost = subst (λ (m : Movement). Within LostTime (m .lost .0 .0)) (sym (is-read g)) (at g 3 (lit< tt));
-        green = subst (λ (m : Movement). Within MinimumGreen (m .green .0 .0)) (sym (is-read g)) (at g 4 (lit< tt));
+        lanes = subst (λ (m : Movement). Within Lanes (m .lanes .0)) (sym (is-read g)) (at g lanesNo (lit< tt));
+        counted = subst (λ (m : Movement). Within Volume (m .volume .0 .0)) (sym (is-read g)) (at g volumeNo (lit< tt));
+        ideal = subst (λ (m : Movement). Within IdealFlow (m .ideal .0 .0)) (sym (is-read g)) (at g idealNo (lit< tt));
+        lost = subst (λ (m : Movement). Within LostTime (m .lost .0 .0)) (sym (is-read g)) (at g lostNo (lit< tt));
+        green = subst (λ (m : Movement). Within MinimumGreen (m .green .0 .0)) (sym (is-read g)) (at g greenNo (lit< tt));
       }
 
   -- what serves a counted movement: lanes of its own, or those that `otherLanes` names
@@ -93,7 +94,7 @@ module _ (e : List ℕ) (ok : judged e ≡ Accepted) (k : ℕ) (few : k < 4) whe
   unfolding readApproach readMovement volume a b movementNo otherLanes
   served Left h =
       ⊎-elim (λ w. omega arith)
-      (λ w. omega (arith, serves Left (w .1), eqb-false (shared e k) 1 (w .0), accepted-approach e ok k 0 few (lit< tt) .most))
+      (λ w. omega (arith, serves Left (w .1), eqb-false (shared e k) 1 (w .0), accepted-approach e ok k sharedNo few (lit< tt) .most))
       (positive (eqb (shared e k) 1) 0 (counted e (left k)) h)
   served Right h =
       ⊎-elim (λ w. omega arith) (λ w. omega (arith, eqb-false (lanes e (right k)) 0 (w .0)))
@@ -112,12 +113,12 @@ module _ (e : List ℕ) (ok : judged e ≡ Accepted) (k : ℕ) (few : k < 4) whe
   fair =
       record {
         group = fair-group;
-        walkers = accepted-approach e ok k 1 few (lit< tt);
-        crossing = accepted-approach e ok k 3 few (lit< tt);
+        walkers = accepted-approach e ok k walkersNo few (lit< tt);
+        crossing = accepted-approach e ok k crossingNo few (lit< tt);
         served = served;
         shares = shared-through;
       }
 
 pub fair-cycle : (e : List ℕ) → judged e ≡ Accepted → FairCycle (cycle e)
 unfolding kindAt
-fair-cycle e ok = accepted-range e ok 80 (lit< tt)
+fair-cycle e ok = accepted-range e ok cycleEntry (lit< tt)

@@ -5,7 +5,8 @@ use Prim.Native.Nat.{ℕ}
 use lib.Dec.{eqb}
 use Rattle.kinds.specs.declared.Group.{Group}
 use Rattle.kinds.specs.declared.Group.the-variants.{Left, Through, Right}
-use Rattle.entries.specs.Layout.{left, through, right, movementEntry, approachEntry}
+use Rattle.layout.specs.Entries.{left, through, right, lanesNo, volumeNo, idealNo, lostNo, greenNo, sharedNo, walkersNo, buttonNo, crossingNo, freeNo}
+use Rattle.entries.specs.Layout.{movementEntry, approachEntry}
 use Rattle.procedure.specs.declared.Movement.{Movement}
 use Rattle.procedure.specs.declared.Approach.{Approach}
 
@@ -13,11 +14,11 @@ use Rattle.procedure.specs.declared.Approach.{Approach}
 unfoldable pub readMovement : List ℕ → ℕ → Movement
 readMovement e m =
     record {
-      lanes = record { 0 = movementEntry e m 0 };
-      volume = record { 0 = record { 0 = movementEntry e m 1 } };
-      ideal = record { 0 = record { 0 = movementEntry e m 2 } };
-      lost = record { 0 = record { 0 = movementEntry e m 3 } };
-      green = record { 0 = record { 0 = movementEntry e m 4 } };
+      lanes = record { 0 = movementEntry e m lanesNo };
+      volume = record { 0 = record { 0 = movementEntry e m volumeNo } };
+      ideal = record { 0 = record { 0 = movementEntry e m idealNo } };
+      lost = record { 0 = record { 0 = movementEntry e m lostNo } };
+      green = record { 0 = record { 0 = movementEntry e m greenNo } };
     }
 
 -- "Approach a has 60+5a onward"
@@ -27,11 +28,11 @@ readApproach e a =
       left = readMovement e (left a);
       through = readMovement e (through a);
       right = readMovement e (right a);
-      shared = record { 0 = approachEntry e a 0 };
-      walkers = record { 0 = approachEntry e a 1 };
-      button = record { 0 = approachEntry e a 2 };
-      crossing = record { 0 = record { 0 = approachEntry e a 3 } };
-      free = record { 0 = approachEntry e a 4 };
+      shared = record { 0 = approachEntry e a sharedNo };
+      walkers = record { 0 = approachEntry e a walkersNo };
+      button = record { 0 = approachEntry e a buttonNo };
+      crossing = record { 0 = record { 0 = approachEntry e a crossingNo } };
+      free = record { 0 = approachEntry e a freeNo };
     }
 
 abbrev pub movementOf : Approach → Group → Movement

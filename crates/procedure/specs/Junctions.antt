@@ -2,11 +2,13 @@
 use mathlib.Core.List.{List, [], _∷_, _++_}
 use Prim.Native.Nat.{ℕ, _*_}
 use lib.ListN.{getD, set}
-use Rattle.decay.specs.Decay.{decayNumber}
+use Rattle.line_decay.specs.Decay.{decayNumber}
 use Rattle.procedure.specs.Approach.{readApproach}
 use Rattle.procedure.specs.Lines.{BLANK, leftShare, equivalent, leftA}
 use Rattle.procedure.specs.Pairs.{line, letterOf}
-use Rattle.procedure.specs.Sheet.{EB, WB, linesAt, sheet}
+use Rattle.layout.specs.Entries.{EB, WB, left, through, volumeNo, walkersNo, crossingNo, movementPlace, approachPlace}
+use Rattle.layout.specs.Sheet.{protectedCell, permittedCell, splitCell, pickCell, requiredCell, icuCell, letterCell}
+use Rattle.procedure.specs.Sheet.{linesAt, sheet}
 
 -- a movement: lanes and volume; "flows 1,900, lost and minimum 4,000"
 abbrev pub movement : ℕ → ℕ → List ℕ
@@ -33,7 +35,7 @@ K2 = alike (movement 0 100 ++ movement 1 300 ++ movement 0 100) 1
 
 -- "K3: p 60, CL 120, button": K1 with 60 pedestrians and a pedestrian time of 40,000 on EB
 abbrev pub K3 : List ℕ
-K3 = set (set K1 61 60) 63 40_000
+K3 = set (set K1 (approachPlace EB walkersNo) 60) (approachPlace EB crossingNo) 40_000
 
 -- "K4: K1 without volumes"
 abbrev pub K4 : List ℕ
@@ -41,17 +43,17 @@ K4 = alike (movement 1 0 ++ movement 1 0 ++ movement 0 0) 0
 
 -- "K7, K8: K1 with WB through 120", 121
 abbrev pub K7 : List ℕ
-K7 = set K1 21 120
+K7 = set K1 (movementPlace (through WB) volumeNo) 120
 
 abbrev pub K8 : List ℕ
-K8 = set K1 21 121
+K8 = set K1 (movementPlace (through WB) volumeNo) 121
 
 -- "K9, K10: K1 with EB left 59", 60
 abbrev pub K9 : List ℕ
-K9 = set K1 1 59
+K9 = set K1 (movementPlace (left EB) volumeNo) 59
 
 abbrev pub K10 : List ℕ
-K10 = set K1 1 60
+K10 = set K1 (movementPlace (left EB) volumeNo) 60
 
 -- EB's lines, and a cell of the sheet
 abbrev pub eb : List ℕ → List ℕ
@@ -63,11 +65,12 @@ cell e k = getD (sheet e) k 0
 -- every number that the paper gives for K1 to K10, worked out: a row for each junction
 abbrev pub workedOut : List (List ℕ)
 workedOut =
-    (line 13 (eb K1) ∷ line 16 (eb K1) ∷ line 14 (eb K1) ∷ line 17 (eb K1) ∷ cell K1 193 ∷ cell K1 206 ∷ cell K1 207 ∷ cell K1 208 ∷ [])
+    (line 13 (eb K1) ∷ line 16 (eb K1) ∷ line 14 (eb K1) ∷ line 17 (eb K1) ∷ cell K1 (protectedCell 0) ∷ cell K1 requiredCell
+    ∷ cell K1 icuCell ∷ cell K1 letterCell ∷ [])
     ∷ (line 4 (eb K2) ∷ line 6 (eb K2) ∷ line 20 (eb K2) ∷ line 21 (eb K2) ∷ line 22 (eb K2) ∷ line 23 (eb K2)
-    ∷ cell K2 195 ∷ cell K2 194 ∷ cell K2 196 ∷ cell K2 207 ∷ cell K2 208 ∷ [])
+    ∷ cell K2 (splitCell 0) ∷ cell K2 (permittedCell 0) ∷ cell K2 (pickCell 0) ∷ cell K2 icuCell ∷ cell K2 letterCell ∷ [])
     ∷ (decayNumber (2 * 60 * 120) ∷ line 12 (eb K3) ∷ line 17 (eb K3) ∷ [])
-    ∷ (cell K4 207 ∷ cell K4 208 ∷ cell K4 196 ∷ cell K4 200 ∷ [])
+    ∷ (cell K4 icuCell ∷ cell K4 letterCell ∷ cell K4 (pickCell 0) ∷ cell K4 (pickCell 1) ∷ [])
     ∷ (letterOf 550 ∷ [])
     ∷ (letterOf 551 ∷ [])
     ∷ (line 24 (eb K7) ∷ [])

@@ -6,8 +6,9 @@ use mathlib.Core.List.{List, [], _∷_, _++_}
 use Prim.Native.Nat.{ℕ, _+_, _-_, _*_, _/_, max, min}
 use lib.Dec.{eqb, leb, ltb}
 use Rattle.units.specs.Rounding.{up}
-use Rattle.decay.specs.Decay.{decayNumber as D}
-use Rattle.factors.specs.Factors.{laneFactor}
+use Rattle.units.specs.Unit.{flowUnit}
+use Rattle.line_decay.specs.Decay.{decayNumber as D}
+use Rattle.line_factors.specs.Factors.{laneFactor}
 use Rattle.kinds.specs.declared.Group.{Group}
 use Rattle.kinds.specs.declared.Group.the-variants.{Left, Through, Right}
 use Rattle.procedure.specs.declared.Approach.{Approach}
@@ -45,9 +46,9 @@ turningT vC a b = cond (eqb vC 0) 10_000 ((100 * vC - 15 * a) * (100 * vC - 5 * 
 unfoldable pub fT : Approach → ℕ
 fT s = turningT (vC s) (a s) (b s)
 
--- 5–7 "flows of L, T, R: i·n·lane factor·f/10⁷, f being 9,500, fT, 8,500. No lanes: 0."
+-- 5–7 "flows of L, T, R: i·n·lane factor·f/10⁷, f being 9,500, fT, 8,500. No lanes: 0.", in the flows' unit
 unfoldable pub flowOf : Group → ℕ → ℕ → ℕ → ℕ
-flowOf g i n f = cond (eqb n 0) 0 (i * n * laneFactor g n * f / 10_000_000)
+flowOf g i n f = cond (eqb n 0) 0 (i * n * laneFactor g n * f / (10_000_000 / flowUnit))
 
 abbrev pub f : Approach → Group → ℕ
 f s Left = 9_500
@@ -85,9 +86,9 @@ frequency p button CL = cond (eqb p 0) 0 (cond button (10_000 - D (2 * p * CL) /
 unfoldable pub F : Approach → ℕ → ℕ
 F s CL = frequency (p s) (hasButton s) CL
 
--- "1000·v·CL/flow, up"
+-- "1000·v·CL/flow, up", the flow in its unit
 unfoldable pub time : ℕ → ℕ → ℕ → ℕ
-time v CL flow = up (1000 * v * CL) flow
+time v CL flow = up (1000 * flowUnit * v * CL) flow
 
 -- "A part without volume is 0 in lines 13–28"
 abbrev pub part : ℕ → ℕ → ℕ

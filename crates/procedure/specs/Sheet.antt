@@ -2,30 +2,11 @@
 use mathlib.Core.Bool.{Bool, _||_}
 use mathlib.Core.List.{List, [], _∷_, _++_}
 use Prim.Native.Nat.{ℕ, _+_, max}
-use lib.ListN.{getD}
+use Rattle.layout.specs.Entries.{EB, WB, NB, SB}
+use Rattle.entries.specs.Layout.{cycle}
 use Rattle.procedure.specs.Approach.{readApproach, isShared, isFree}
 use Rattle.procedure.specs.Lines.{lines}
 use Rattle.procedure.specs.Pairs.{pair, pickedTime, throughTime, leftTime, rightTotal, icuOf, letterOf}
-
-abbrev pub sheetCount : ℕ
-sheetCount = 209
-
--- "Entry 80 is the cycle CL"
-abbrev pub cycle : List ℕ → ℕ
-cycle e = getD e 80 0
-
--- "Approaches stand in the order EB, WB, NB, SB (0 to 3)"
-abbrev pub EB : ℕ
-EB = 0
-
-abbrev pub WB : ℕ
-WB = 1
-
-abbrev pub NB : ℕ
-NB = 2
-
-abbrev pub SB : ℕ
-SB = 3
 
 -- the lines of approach a, with o opposite it
 unfoldable pub linesAt : List ℕ → ℕ → ℕ → List ℕ

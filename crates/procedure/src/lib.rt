@@ -4,8 +4,10 @@
 ghost use mathlib.Core.Path.{_≡_};
 ghost use Prim.Native.Nat.{_<_};
 ghost use lib.ListN.{length};
-ghost use Rattle.entries.specs.Layout.{entryCount};
+ghost use Rattle.layout.specs.Entries.{approachCount, movementCount, entryCount};
+ghost use Rattle.entries.specs.Layout.{cycle};
 ghost use Rattle.procedure.specs.Approach.{readMovement, readApproach};
+use kinds::Cycle;
 use kinds::FreeRight;
 use kinds::IdealFlow;
 use kinds::Lanes;
@@ -39,33 +41,44 @@ pub struct Approach {
 }
 
 fn read_movement(entries: &[u32], movement: usize) -> Movement
-    requires { ⌜ (length (now entries) ≡ entryCount) × (movement < 12) ⌝ }
+    requires { ⌜ (length (now entries) ≡ entryCount) × (movement < movementCount) ⌝ }
     ensures { λ r. ⌜ r ≡ readMovement (now (entries .entry)) movement ⌝ }
 {
     Movement {
-        lanes: Lanes(entries::movement_entry(entries, movement, 0)),
-        volume: Volume(Vph(entries::movement_entry(entries, movement, 1))),
-        ideal: IdealFlow(Vph(entries::movement_entry(entries, movement, 2))),
-        lost: LostTime(Ms(entries::movement_entry(entries, movement, 3))),
-        green: MinimumGreen(Ms(entries::movement_entry(entries, movement, 4))),
+        lanes: Lanes(entries::movement_entry(entries, movement, layout::LANES_NO)),
+        volume: Volume(Vph(entries::movement_entry(entries, movement, layout::VOLUME_NO))),
+        ideal: IdealFlow(Vph(entries::movement_entry(entries, movement, layout::IDEAL_NO))),
+        lost: LostTime(Ms(entries::movement_entry(entries, movement, layout::LOST_NO))),
+        green: MinimumGreen(Ms(entries::movement_entry(entries, movement, layout::GREEN_NO))),
     }
 }
 
 pub fn read_approach(entries: &[u32], approach: usize) -> Approach
-    requires { ⌜ (length (now entries) ≡ entryCount) × (approach < 4) ⌝ }
+    requires { ⌜ (length (now entries) ≡ entryCount) × (approach < approachCount) ⌝ }
     ensures { λ r. ⌜ r ≡ readApproach (now (entries .entry)) approach ⌝ }
 {
-    let left = read_movement(entries, 3 * approach);
-    let through = read_movement(entries, 3 * approach + 1);
-    let right = read_movement(entries, 3 * approach + 2);
+    let left = read_movement(entries, layout::GROUPS * approach);
+    let through = read_movement(entries, layout::GROUPS * approach + 1);
+    let right = read_movement(entries, layout::GROUPS * approach + 2);
     Approach {
         left,
         through,
         right,
-        shared: SharedLane(entries::approach_entry(entries, approach, 0)),
-        walkers: Pedestrians(entries::approach_entry(entries, approach, 1)),
-        button: PushButton(entries::approach_entry(entries, approach, 2)),
-        crossing: PedestrianTime(Ms(entries::approach_entry(entries, approach, 3))),
-        free: FreeRight(entries::approach_entry(entries, approach, 4)),
+        shared: SharedLane(entries::approach_entry(entries, approach, layout::SHARED_NO)),
+        walkers: Pedestrians(entries::approach_entry(entries, approach, layout::WALKERS_NO)),
+        button: PushButton(entries::approach_entry(entries, approach, layout::BUTTON_NO)),
+        crossing: PedestrianTime(Ms(entries::approach_entry(
+            entries,
+            approach,
+            layout::CROSSING_NO,
+        ))),
+        free: FreeRight(entries::approach_entry(entries, approach, layout::FREE_NO)),
     }
+}
+
+pub fn read_cycle(entries: &[u32]) -> Cycle
+    requires { ⌜ length (now entries) ≡ entryCount ⌝ }
+    ensures { λ r. ⌜ r .0 ≡ cycle (now (entries .entry)) ⌝ }
+{
+    Cycle(entries::cycle_entry(entries))
 }

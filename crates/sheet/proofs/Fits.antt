@@ -10,7 +10,7 @@ use lib.Dec.{eqb, leb, lit≤, lit<}
 use lib.ListN.{getD, List·getD-eq-default}
 use borrow.Author.Tests.{leb-true}
 use Rattle.units.specs.Rounding.{up-most}
-use Rattle.units.proofs.Table.{at-each}
+use Rattle.lists.proofs.Tests.{at-each}
 use Rattle.kinds.specs.Kinds.{mostOf, kindAt}
 use Rattle.answers.specs.declared.Answer.the-variants.{Accepted}
 use Rattle.entries.specs.Judging.{judged}
@@ -21,8 +21,8 @@ use Rattle.procedure.specs.Lines.{BLANK}
 use Rattle.procedure.specs.Pairs.{line, protected, permitted, pair, rightTotal, icuOf, letterOf}
 use Rattle.procedure.specs.Sheet.{EB, WB, NB, SB, cycle, linesAt, pairAt, rightAt, lastOf, lastAt, sheet}
 use Rattle.procedure.proofs.Fair.{fair, fair-cycle}
-use Rattle.blocks.specs.Cells.{Bounded}
-use Rattle.pairs.proofs.Laws.{split-most, pick-few}
+use Rattle.line_stages.specs.Cells.{Bounded}
+use Rattle.sheet_pairs.proofs.Laws.{split-most, pick-few}
 use Rattle.lines.proofs.NoBlank.{Under, none, _&_, under-fits, chosen-most, timely-fits, bounded-lines, lines-fit}
 use Rattle.sheet.proofs.Laws.{Small, small}
 

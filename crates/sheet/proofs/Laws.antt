@@ -13,8 +13,8 @@ use Rattle.sheet.specs.Fill.{sheetAnswer}
 use Rattle.procedure.specs.Approach.{isShared, isFree, readApproach}
 use Rattle.procedure.specs.Pairs.{line, pair, pickOf, pickedTime, throughTime, leftTime, rightTotal}
 use Rattle.procedure.specs.Sheet.{EB, WB, NB, SB, cycle, linesAt, pairAt, rightAt, lastOf, lastAt, sheet}
-use Rattle.blocks.specs.Cells.{Bounded}
-use Rattle.pairs.proofs.Laws.{pick-few, picked-most, through-most, left-most}
+use Rattle.line_stages.specs.Cells.{Bounded}
+use Rattle.sheet_pairs.proofs.Laws.{pick-few, picked-most, through-most, left-most}
 use Rattle.sheet.specs.Street.{StreetAt}
 
 -- the times that the last eight cells take from a street

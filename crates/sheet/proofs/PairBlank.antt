@@ -14,7 +14,7 @@ use Rattle.procedure.specs.Approach.{readApproach, isShared}
 use Rattle.procedure.specs.Lines.{BLANK}
 use Rattle.procedure.specs.Pairs.{line, protected, permitted, split, pair}
 use Rattle.procedure.specs.Sheet.{linesAt, pairAt}
-use Rattle.blocks.specs.Cells.{Bounded}
+use Rattle.line_stages.specs.Cells.{Bounded}
 use Rattle.lines.proofs.NoBlank.{timely-fits}
 use Rattle.sheet.proofs.Fits.{bounded-at}
 

@@ -3,7 +3,7 @@ use mathlib.Core.Path.{_≡_}
 use mathlib.Core.List.{List}
 use Prim.Native.Nat.{ℕ}
 use Rattle.procedure.specs.Sheet.{linesAt, pairAt}
-use Rattle.blocks.specs.Cells.{Bounded}
+use Rattle.line_stages.specs.Cells.{Bounded}
 
 pub record StreetAt (e : List ℕ) (a o : ℕ) (x y cells : List ℕ) : Type 0 where
   pub first : x ≡ linesAt e a o

@@ -4,14 +4,14 @@ ghost use mathlib.Core.Bool.{_||_};
 ghost use mathlib.Core.List.{_++_};
 ghost use Prim.Native.Nat.{_+_, _<_, _≤_};
 ghost use lib.ListN.{length};
-ghost use Rattle.words.specs.Words.{over};
+ghost use Rattle.lists.specs.Lists.{over};
 ghost use Rattle.answers.specs.declared.Answer.the-variants.{Accepted};
 ghost use Rattle.entries.specs.Layout.{entryCount};
 ghost use Rattle.entries.specs.Judging.{judged};
 ghost use Rattle.procedure.specs.Approach.{isShared, isFree, readApproach};
 ghost use Rattle.procedure.specs.Pairs.{line, pickOf, pickedTime, throughTime, leftTime, rightTotal};
 ghost use Rattle.procedure.specs.Sheet.{EB, WB, NB, SB, linesAt, pairAt, lastAt, sheetCount, sheet as sheetOf};
-ghost use Rattle.blocks.specs.Cells.{Bounded};
+ghost use Rattle.line_stages.specs.Cells.{Bounded};
 ghost use Rattle.sheet.specs.Street.{StreetAt};
 ghost use Rattle.sheet.specs.Fill.{sheetAnswer, fillAnswer, filled};
 use answers::Answer;
@@ -48,7 +48,7 @@ fn pair_at(entries: &[u32], a: usize, o: usize, first: [u32; 28], second: [u32; 
 {
     let x = procedure::read_approach(entries, a);
     let y = procedure::read_approach(entries, o);
-    pairs::pair_of(either_shares(x, y), first, second)
+    sheet_pairs::pair_of(either_shares(x, y), first, second)
 }
 
 // The right total of approach a, from its lines, those opposite it, and those of the through that crosses it.
@@ -65,7 +65,7 @@ fn right_at(
     ensures { λ r. ⌜ r .0 ≡ rightTotal (isFree (readApproach (now (entries .entry)) a)) lines (throughTime crosspair cross) (leftTime pair oncoming) ⌝ }
 {
     let free = entries::approach_entry(entries, a, 4) == 1;
-    totals::right_of(free, lines, oncoming, pair, cross, crosspair)
+    sheet_totals::right_of(free, lines, oncoming, pair, cross, crosspair)
 }
 
 // The two picked times added.
@@ -73,7 +73,7 @@ fn combined(along: [u32; 4], across: [u32; 4]) -> Ms
     requires { ⌜ (pickOf along ≤ 2) × (pickOf across ≤ 2) × (pickedTime along ≤ 20_888_000) × (pickedTime across ≤ 20_888_000) ⌝ }
     ensures { λ r. ⌜ r .0 ≡ pickedTime along + pickedTime across ⌝ }
 {
-    Ms(totals::picked_time(along).0 + totals::picked_time(across).0)
+    Ms(sheet_totals::picked_time(along).0 + sheet_totals::picked_time(across).0)
 }
 
 // The last eight cells, from the lines and pairs of the two streets.
@@ -94,26 +94,26 @@ fn last_at(
     let nbr = right_at(entries, 2, nb, sb, across, eb, along);
     let sbr = right_at(entries, 3, sb, nb, across, wb, along);
     let both = combined(along, across);
-    totals::last_of(ebr, wbr, nbr, sbr, both, entries[80])
+    sheet_totals::last_of(ebr, wbr, nbr, sbr, both, entries[80])
 }
 
 fn put_lines(all: &mut [u32], eb: [u32; 28], wb: [u32; 28], nb: [u32; 28], sb: [u32; 28])
     requires { ⌜ length (now all) ≡ 209 ⌝ }
     ensures { λ _. ⌜ now (all .exit) ≡ over (now (all .entry)) 81 (eb ++ wb ++ nb ++ sb) ⌝ }
 {
-    cells::put_lines(all, 81, eb);
-    cells::put_lines(all, 109, wb);
-    cells::put_lines(all, 137, nb);
-    cells::put_lines(all, 165, sb);
+    lists::put_lines(all, 81, eb);
+    lists::put_lines(all, 109, wb);
+    lists::put_lines(all, 137, nb);
+    lists::put_lines(all, 165, sb);
 }
 
 fn put_rest(all: &mut [u32], along: [u32; 4], across: [u32; 4], last: [u32; 8])
     requires { ⌜ length (now all) ≡ 209 ⌝ }
     ensures { λ _. ⌜ now (all .exit) ≡ over (now (all .entry)) 193 (along ++ across ++ last) ⌝ }
 {
-    cells::put_pair(all, 193, along);
-    cells::put_pair(all, 197, across);
-    cells::put_last(all, 201, last);
+    lists::put_pair(all, 193, along);
+    lists::put_pair(all, 197, across);
+    lists::put_last(all, 201, last);
 }
 
 // The cells of a sheet, from its parts.
@@ -131,7 +131,7 @@ fn put_all(
     requires { ⌜ (length (now sheet) ≡ sheetCount) × (length (now entries) ≡ entryCount) ⌝ }
     ensures { λ _. ⌜ now (sheet .exit) ≡ now (entries .entry) ++ (eb ++ wb ++ nb ++ sb) ++ (along ++ across ++ last) ⌝ }
 {
-    cells::put(sheet, 0, entries);
+    lists::put(sheet, 0, entries);
     put_lines(sheet, eb, wb, nb, sb);
     put_rest(sheet, along, across, last);
 }

@@ -11,7 +11,7 @@ use borrow.Author.Tests.{ltb-false, leb-false, le-ltb, eqb-true, eq-eqb, not-fal
 use native.Mathlib.Nat.{sub-zero, eq-or-lt-of-le}
 use native.Mathlib.Numerals.{add-one}
 use native.Mathlib.Omega.{arith}
-use Rattle.words.specs.Words.{wordAt}
+use Rattle.study_numbers.specs.Numbers.{numberAt}
 use Rattle.answers.specs.Answers.{_then_, refuse-if}
 use Rattle.answers.specs.declared.Refusal.{Refusal}
 use Rattle.answers.specs.declared.Refusal.the-variants.{File}
@@ -102,13 +102,13 @@ count-accepted file e =
     let both = field-accepted file 4 (ltb siteLimit (sitesOf file)) e in
     (both .0, ltb-false siteLimit (sitesOf file) (both .1))
 
-offset-accepted : (file : List ℕ) (k j : ℕ) → offsetField file k j ≡ Accepted → wordAt file (offsetPlace j) ≡ blockPlace k j
+offset-accepted : (file : List ℕ) (k j : ℕ) → offsetField file k j ≡ Accepted → numberAt file (offsetPlace j) ≡ blockPlace k j
 offset-accepted file k j e =
-    let right = eqb (wordAt file (offsetPlace j)) (blockPlace k j) in
-    eqb-true (wordAt file (offsetPlace j)) (blockPlace k j) (not-false right (field-accepted file (offsetPlace j) (not right) e .1))
+    let right = eqb (numberAt file (offsetPlace j)) (blockPlace k j) in
+    eqb-true (numberAt file (offsetPlace j)) (blockPlace k j) (not-false right (field-accepted file (offsetPlace j) (not right) e .1))
 
 offsets-accepted : (file : List ℕ) (k j left : ℕ) → offsetFields file k j left ≡ Accepted
-    → (i : ℕ) → j ≤ i → i < j + left → wordAt file (offsetPlace i) ≡ blockPlace k i
+    → (i : ℕ) → j ≤ i → i < j + left → numberAt file (offsetPlace i) ≡ blockPlace k i
 unfolding offsetFields
 offsets-accepted file k j zero e i from to = absurd (omega arith)
 offsets-accepted file k j (suc left) e i from to =
@@ -130,7 +130,7 @@ ending-accepted file k e =
 pub record WellLaidOut (file : List ℕ) : Type 0 where
   pub opened : startsWith file opening ≡ true
   pub few : sitesOf file ≤ siteLimit
-  pub offset : (j : ℕ) → j < sitesOf file → wordAt file (offsetPlace j) ≡ blockPlace (sitesOf file) j
+  pub offset : (j : ℕ) → j < sitesOf file → numberAt file (offsetPlace j) ≡ blockPlace (sitesOf file) j
   pub size : length file ≡ fileBytes (sitesOf file)
 
 pub accepted : (file : List ℕ) → judgement file ≡ Accepted → WellLaidOut file
@@ -175,7 +175,7 @@ module _ (file : List ℕ) (laid : WellLaidOut file) where
   offsets-right j zero h = refl
   offsets-right j (suc left) h =
       let k = sitesOf file in
-      let right = eqb (wordAt file (offsetPlace j)) (blockPlace k j) in
+      let right = eqb (numberAt file (offsetPlace j)) (blockPlace k j) in
       let here : offsetField file k j ≡ Accepted =
       field-right file (offsetPlace j) (not right) (omega (arith, laid .size)) (simp (eq-eqb _ _ (laid .offset j (omega arith)))) in
       go-on (offsetFields file k (suc j) left) here ∙ offsets-right (suc j) left (omega arith)

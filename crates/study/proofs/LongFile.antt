@@ -8,8 +8,8 @@ use lib.Seq.{length-take-le}
 use lib.Dec.{ltb, eqb}
 use borrow.Author.Tests.{le-ltb, lt-ltb, ltb-false}
 use native.Mathlib.Omega.{arith}
-use Rattle.words.specs.Words.{wordAt}
-use Rattle.words.proofs.RoundTrip.{word-take}
+use Rattle.study_numbers.specs.Numbers.{numberAt}
+use Rattle.study_numbers.proofs.RoundTrip.{number-take}
 use Rattle.answers.specs.Answers.{_then_}
 use Rattle.study.specs.Study.{siteLimit, opening, sitesOf, offsetPlace, blockPlace, fileBytes, startsWith, field}
 use Rattle.study.specs.Study.{openingField, countField, offsetField, offsetFields, ending, judgement}
@@ -40,9 +40,9 @@ module _ (file : List ℕ) (m : ℕ) (enough : decisive ≤ m) (long : m ≤ len
   offsets-front k j zero few h = refl
   offsets-front k j (suc left) few h =
       let at = offsetPlace j in
-      let same : wordAt (take m file) at ≡ wordAt file at = word-take file m at (omega arith) in
+      let same : numberAt (take m file) at ≡ numberAt file at = number-take file m at (omega arith) in
       let first : offsetField (take m file) k j ≡ offsetField file k j =
-      field-front at (not (eqb (wordAt file at) (blockPlace k j))) (not (eqb (wordAt (take m file) at) (blockPlace k j))) (omega arith)
+      field-front at (not (eqb (numberAt file at) (blockPlace k j))) (not (eqb (numberAt (take m file) at) (blockPlace k j))) (omega arith)
       (ap (λ word. not (eqb word (blockPlace k j))) same) in
       ap (λ a. a then offsetFields (take m file) k (suc j) left) first
       ∙ ap (λ a. offsetField file k j then a) (offsets-front k (suc j) left few (omega arith))
@@ -70,7 +70,7 @@ module _ (file : List ℕ) (m : ℕ) (enough : decisive ≤ m) (long : m ≤ len
   unfolding judgement
   front-decides =
       let k = sitesOf file in
-      let same : sitesOf (take m file) ≡ k = word-take file m 4 (omega arith) in
+      let same : sitesOf (take m file) ≡ k = number-take file m 4 (omega arith) in
       let first : openingField (take m file) ≡ openingField file =
       field-front 0 (not (startsWith file opening)) (not (startsWith (take m file) opening)) (omega arith)
       (ap not (starts-front file opening m (omega arith))) in

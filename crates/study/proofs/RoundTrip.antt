@@ -8,9 +8,11 @@ use lib.Seq.{getD-append-add, getD-take, getD-drop, length-take-le, take-all, ex
 use lib.Dec.{ltb, eqb}
 use borrow.Author.Tests.{ltb-false, lt-leb, eqb-true, not-false}
 use native.Mathlib.Omega.{arith}
-use Rattle.words.specs.Words.{wordAt, AllBelow, table, wordsIn, packed, over}
-use Rattle.words.proofs.Laws.{length-packed, length-table, table-at, table-join, table-same, front-over}
-use Rattle.words.proofs.RoundTrip.{word-past, word-take, word-drop, word-packed, packed-words}
+use Rattle.lists.specs.Lists.{AllBelow, table, over}
+use Rattle.study_numbers.specs.Numbers.{numberAt, numbersIn, packed}
+use Rattle.lists.proofs.Laws.{length-table, table-at, table-join, table-same, front-over}
+use Rattle.study_numbers.proofs.Laws.{length-packed}
+use Rattle.study_numbers.proofs.RoundTrip.{number-past, number-take, number-drop, number-packed, packed-numbers}
 use Rattle.answers.specs.Answers.{_then_, refuse-if}
 use Rattle.answers.specs.declared.Refusal.the-variants.{Size, File}
 use Rattle.answers.specs.declared.Answer.the-variants.{Accepted}
@@ -22,10 +24,10 @@ use Rattle.study.proofs.Laws.{WellLaidOut, accepted, laid-out}
 
 -- entry i of a site's block stands in the file
 entry-at : (file : List ℕ) (site i : ℕ) → i < entryCount
-    → wordAt (siteBlock file site) (4 * i) ≡ wordAt file (blockPlace (sitesOf file) site + 4 * i)
+    → numberAt (siteBlock file site) (4 * i) ≡ numberAt file (blockPlace (sitesOf file) site + 4 * i)
 entry-at file site i h =
     let place = blockPlace (sitesOf file) site in
-    word-take (drop place file) blockBytes (4 * i) (omega arith) ∙ word-drop file place (4 * i)
+    number-take (drop place file) blockBytes (4 * i) (omega arith) ∙ number-drop file place (4 * i)
 
 -- written and read back
 
@@ -56,26 +58,26 @@ module _ (entries : List ℕ) (k : ℕ) (sites : length entries ≡ entryCount *
   file = opening ++ packed (fields k entries)
 
   number-at : (i : ℕ) → i < 1 + k + entryCount * k → getD (fields k entries) i 0 < 2 ^ 32
-      → wordAt file (4 + 4 * i) ≡ getD (fields k entries) i 0
+      → numberAt file (4 + 4 * i) ≡ getD (fields k entries) i 0
   unfolding file
   number-at i h small =
-      word-past opening (packed (fields k entries)) 4 (4 * i) refl
-      ∙ word-packed (fields k entries) i (omega (arith, length-fields entries k)) small
+      number-past opening (packed (fields k entries)) 4 (4 * i) refl
+      ∙ number-packed (fields k entries) i (omega (arith, length-fields entries k)) small
 
   count-back : sitesOf file ≡ k
   count-back = number-at 0 (omega arith) (omega arith)
 
-  offset-back : (j : ℕ) → j < k → wordAt file (offsetPlace j) ≡ blockPlace k j
+  offset-back : (j : ℕ) → j < k → numberAt file (offsetPlace j) ≡ blockPlace k j
   offset-back j h =
       let e : offsetPlace j ≡ 4 + 4 * (1 + j) = omega arith in
       let is = field-offset entries k j h in
-      ap (wordAt file) e ∙ number-at (1 + j) (omega arith) (omega (arith, is)) ∙ is
+      ap (numberAt file) e ∙ number-at (1 + j) (omega arith) (omega (arith, is)) ∙ is
 
-  entry-back : (i : ℕ) → i < entryCount * k → wordAt file (blockPlace k 0 + 4 * i) ≡ getD entries i 0
+  entry-back : (i : ℕ) → i < entryCount * k → numberAt file (blockPlace k 0 + 4 * i) ≡ getD entries i 0
   entry-back i h =
       let e : blockPlace k 0 + 4 * i ≡ 4 + 4 * (1 + k + i) = omega arith in
       let is = field-entry entries k i in
-      ap (wordAt file) e ∙ number-at (1 + k + i) (omega arith) (omega (arith, is, fits i)) ∙ is
+      ap (numberAt file) e ∙ number-at (1 + k + i) (omega arith) (omega (arith, is, fits i)) ∙ is
 
   length-file : length file ≡ fileBytes k
   unfolding file
@@ -100,12 +102,12 @@ module _ (entries : List ℕ) (k : ℕ) (sites : length entries ≡ entryCount *
   site-back j h =
       let part = take entryCount (drop (entryCount * j) entries) in
       let l : length part ≡ entryCount = length-take-le entryCount (drop (entryCount * j) entries) (simp length-drop (omega arith)) in
-      let m = length-table (λ i. wordAt (siteBlock file j) (4 * i)) entryCount in
+      let m = length-table (λ i. numberAt (siteBlock file j) (4 * i)) entryCount in
       ext-getD 0 (siteEntries file j) part (m ∙ sym l)
       (λ i below.
       let b : i < entryCount = rw m at below in
       let e : blockPlace k j + 4 * i ≡ blockPlace k 0 + 4 * (entryCount * j + i) = omega arith in
-      table-at (λ i. wordAt (siteBlock file j) (4 * i)) entryCount i b
+      table-at (λ i. numberAt (siteBlock file j) (4 * i)) entryCount i b
       ∙ entry-at file j i b
       ∙ rw (count-back, e, entry-back (entryCount * j + i) (omega arith), getD-take entryCount (drop (entryCount * j) entries) i 0 b, getD-drop (entryCount * j) entries i 0)
       )
@@ -189,38 +191,38 @@ table-one f = refl
 
 module _ (bytes : List ℕ) (laid : WellLaidOut bytes) where
   -- the sites' entries are the numbers from the first block on
-  entries-are : (n : ℕ) → entriesUpTo bytes n ≡ wordsIn (drop (blockPlace (sitesOf bytes) 0) bytes) (entryCount * n)
+  entries-are : (n : ℕ) → entriesUpTo bytes n ≡ numbersIn (drop (blockPlace (sitesOf bytes) 0) bytes) (entryCount * n)
   unfolding entriesUpTo table
   entries-are zero = refl
   entries-are (suc n) =
       let k = sitesOf bytes in
       let blocks = drop (blockPlace k 0) bytes in
       let e : entryCount * suc n ≡ entryCount * n + entryCount = omega arith in
-      let here : siteEntries bytes n ≡ table (λ i. wordAt blocks (4 * (entryCount * n + i))) entryCount =
-      table-same (λ i. wordAt (siteBlock bytes n) (4 * i)) (λ i. wordAt blocks (4 * (entryCount * n + i))) entryCount
+      let here : siteEntries bytes n ≡ table (λ i. numberAt blocks (4 * (entryCount * n + i))) entryCount =
+      table-same (λ i. numberAt (siteBlock bytes n) (4 * i)) (λ i. numberAt blocks (4 * (entryCount * n + i))) entryCount
       (λ i h.
       let at : blockPlace k n + 4 * i ≡ blockPlace k 0 + 4 * (entryCount * n + i) = omega arith in
-      entry-at bytes n i h ∙ ap (wordAt bytes) at ∙ sym (word-drop bytes (blockPlace k 0) (4 * (entryCount * n + i)))
+      entry-at bytes n i h ∙ ap (numberAt bytes) at ∙ sym (number-drop bytes (blockPlace k 0) (4 * (entryCount * n + i)))
       ) in
-      rw (e, entries-are n, here) (sym (table-join (λ i. wordAt blocks (4 * i)) (entryCount * n) entryCount))
+      rw (e, entries-are n, here) (sym (table-join (λ i. numberAt blocks (4 * i)) (entryCount * n) entryCount))
 
   -- the numbers past the opening are those that the writer packs
-  fields-are : fields (sitesOf bytes) (entriesUpTo bytes (sitesOf bytes)) ≡ wordsIn (drop 4 bytes) (1 + sitesOf bytes + entryCount * sitesOf bytes)
+  fields-are : fields (sitesOf bytes) (entriesUpTo bytes (sitesOf bytes)) ≡ numbersIn (drop 4 bytes) (1 + sitesOf bytes + entryCount * sitesOf bytes)
   fields-are =
       let k = sitesOf bytes in
-      let number : ℕ → ℕ = λ i. wordAt (drop 4 bytes) (4 * i) in
-      let count : table number 1 ≡ k ∷ [] = table-one number ∙ ap (λ n. n ∷ []) (word-drop bytes 4 0) in
+      let number : ℕ → ℕ = λ i. numberAt (drop 4 bytes) (4 * i) in
+      let count : table number 1 ≡ k ∷ [] = table-one number ∙ ap (λ n. n ∷ []) (number-drop bytes 4 0) in
       let places : table (λ i. number (1 + i)) k ≡ offsets k =
       table-same (λ i. number (1 + i)) (blockPlace k) k
       (λ i h.
       let at : 4 + 4 * (1 + i) ≡ offsetPlace i = omega arith in
-      word-drop bytes 4 (4 * (1 + i)) ∙ ap (wordAt bytes) at ∙ laid .offset i h
+      number-drop bytes 4 (4 * (1 + i)) ∙ ap (numberAt bytes) at ∙ laid .offset i h
       ) in
       let entries : table (λ i. number (1 + k + i)) (entryCount * k) ≡ entriesUpTo bytes k =
-      table-same (λ i. number (1 + k + i)) (λ i. wordAt (drop (blockPlace k 0) bytes) (4 * i)) (entryCount * k)
+      table-same (λ i. number (1 + k + i)) (λ i. numberAt (drop (blockPlace k 0) bytes) (4 * i)) (entryCount * k)
       (λ i h.
       let at : 4 + 4 * (1 + k + i) ≡ blockPlace k 0 + 4 * i = omega arith in
-      word-drop bytes 4 (4 * (1 + k + i)) ∙ ap (wordAt bytes) at ∙ sym (word-drop bytes (blockPlace k 0) (4 * i))
+      number-drop bytes 4 (4 * (1 + k + i)) ∙ ap (numberAt bytes) at ∙ sym (number-drop bytes (blockPlace k 0) (4 * i))
       )
       ∙ sym (entries-are k) in
       sym
@@ -242,6 +244,6 @@ read-written bytes small e =
     let rest : length (drop 4 bytes) ≡ 4 * n = length-drop 4 bytes ∙ omega (arith, laid .size) in
     let low : AllBelow 256 (drop 4 bytes) = λ i. rw (getD-drop 4 bytes i 0) (small (4 + i)) in
     simp e
-    (rw (s, fields-are bytes laid, packed-words (drop 4 bytes) n low (omega (arith, rest)), take-all (4 * n) (drop 4 bytes) (omega (arith, rest)))
+    (rw (s, fields-are bytes laid, packed-numbers (drop 4 bytes) n low (omega (arith, rest)), take-all (4 * n) (drop 4 bytes) (omega (arith, rest)))
     (ap (λ front. front ++ drop 4 bytes) (sym (starts-with bytes opening (laid .opened))) ∙ take-append-drop 4 bytes)
     )

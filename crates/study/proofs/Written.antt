@@ -5,8 +5,10 @@ use mathlib.Core.List.{List, [], _∷_, _++_, append-assoc}
 use lib.ListN.{length, length-append}
 use native.Mathlib.Nat.{zero-add}
 use native.Mathlib.Omega.{arith}
-use Rattle.words.specs.Words.{bytesOf, packed, over}
-use Rattle.words.proofs.Laws.{length-bytesOf, length-packed, length-table, over-next, packed-append, packed-one}
+use Rattle.lists.specs.Lists.{over}
+use Rattle.study_numbers.specs.Numbers.{bytesOf, packed}
+use Rattle.lists.proofs.Laws.{length-table, over-next}
+use Rattle.study_numbers.proofs.Laws.{length-bytesOf, length-packed, packed-append, packed-one}
 use Rattle.entries.specs.Layout.{entryCount}
 use Rattle.study.specs.Study.{opening, blockPlace, fileBytes, offsets, sitesIn, fileOf}
 

@@ -5,7 +5,8 @@ use mathlib.Core.Bool.{Bool, true, false, cond, not}
 use lib.ListN.{length, take, drop}
 use lib.Dec.{ltb, leb, eqb}
 use Rattle.entries.specs.Layout.{entryCount}
-use Rattle.words.specs.Words.{wordAt, wordsIn, table, packed}
+use Rattle.lists.specs.Lists.{table}
+use Rattle.study_numbers.specs.Numbers.{numberAt, numbersIn, packed}
 use Rattle.answers.specs.Answers.{_then_, refuse-if, left-by}
 use Rattle.answers.specs.declared.Refusal.the-variants.{Size, File}
 use Rattle.answers.specs.declared.Answer.{Answer}
@@ -25,7 +26,7 @@ opening = 73 ∷ 67 ∷ 85 ∷ 83 ∷ []
 
 -- "then k"
 abbrev pub sitesOf : List ℕ → ℕ
-sitesOf file = wordAt file 4
+sitesOf file = numberAt file 4
 
 -- "then k offsets": the place of offset j
 abbrev pub offsetPlace : ℕ → ℕ
@@ -61,7 +62,7 @@ countField file = field file 4 (ltb siteLimit (sitesOf file))
 
 -- offset j of k
 abbrev pub offsetField : List ℕ → ℕ → ℕ → Answer
-offsetField file k j = field file (offsetPlace j) (not (eqb (wordAt file (offsetPlace j)) (blockPlace k j)))
+offsetField file k j = field file (offsetPlace j) (not (eqb (numberAt file (offsetPlace j)) (blockPlace k j)))
 
 -- "offsets in order": of `left` offsets from j on
 unfoldable pub offsetFields : List ℕ → ℕ → ℕ → ℕ → Answer
@@ -99,7 +100,7 @@ abbrev pub blockAnswer : List ℕ → ℕ → Answer
 blockAnswer block room = sizeAnswer blockBytes (length block) then sizeAnswer entryCount room
 
 abbrev pub blockEntries : List ℕ → List ℕ
-blockEntries block = wordsIn block entryCount
+blockEntries block = numbersIn block entryCount
 
 -- a site's entries, asked for with room for some numbers
 abbrev pub siteEntriesAnswer : List ℕ → ℕ → ℕ → Answer

@@ -4,7 +4,8 @@ ghost use mathlib.Core.List.{[]};
 ghost use Prim.Native.Nat.{_+_, _*_, _≤_, _<_};
 ghost use lib.ListN.{length};
 ghost use lib.Dec.{ltb};
-ghost use Rattle.words.specs.Words.{packed, over};
+ghost use Rattle.lists.specs.Lists.{over};
+ghost use Rattle.study_numbers.specs.Numbers.{packed};
 ghost use Rattle.answers.specs.Answers.{refuse-if, left-by};
 ghost use Rattle.answers.specs.declared.Refusal.the-variants.{File};
 ghost use Rattle.answers.specs.declared.Answer.the-variants.{Accepted, Refused};
@@ -92,7 +93,7 @@ fn sites_of(file: &[u8]) -> usize
     requires { ⌜ 8 ≤ length (now file) ⌝ }
     ensures { λ r. ⌜ r ≡ sitesOf (now (file .entry)) ⌝ }
 {
-    words::read(file, COUNT_PLACE) as usize
+    study_numbers::read(file, COUNT_PLACE) as usize
 }
 
 fn check_count(file: &[u8]) -> Answer
@@ -117,7 +118,7 @@ fn check_offset(file: &[u8], sites: usize, site: usize) -> Answer
     let Answer::Accepted = whole else {
         return whole;
     };
-    if words::read(file, at) as usize != block_place(sites, site) {
+    if study_numbers::read(file, at) as usize != block_place(sites, site) {
         return refused(at);
     }
     Answer::Accepted
@@ -182,7 +183,7 @@ pub fn count(file: &[u8]) -> u32
     let Answer::Accepted = answer else {
         return 0;
     };
-    words::read(file, COUNT_PLACE)
+    study_numbers::read(file, COUNT_PLACE)
 }
 
 // Whether a file has a site, counted from 0. Only a number that passes here is multiplied by a block's bytes.
@@ -231,7 +232,7 @@ pub fn entries_of(block: &[u8], entries: &mut [u32]) -> Answer
     if entries.len() != entries::COUNT {
         return Answer::Refused(Refusal::Size, 0);
     }
-    words::read_all(block, entries);
+    study_numbers::read_all(block, entries);
     Answer::Accepted
 }
 
@@ -270,7 +271,7 @@ fn put_offsets(out: &mut [u8], sites: usize)
 {
     let mut placed: usize = 0;
     while placed < sites {
-        words::write(
+        study_numbers::write(
             out,
             OFFSETS_PLACE + 4 * placed,
             block_place(sites, placed) as u32,
@@ -297,8 +298,8 @@ pub fn write(entries: &[u32], out: &mut [u8]) -> Answer
         return refused(4);
     }
     put_opening(out);
-    words::write(out, COUNT_PLACE, sites as u32);
+    study_numbers::write(out, COUNT_PLACE, sites as u32);
     put_offsets(out, sites);
-    words::write_all(entries, out, block_place(sites, 0));
+    study_numbers::write_all(entries, out, block_place(sites, 0));
     Answer::Accepted
 }

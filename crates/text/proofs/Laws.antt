@@ -4,15 +4,12 @@ use mathlib.Core.Path.{_≡_, refl, sym, _∙_}
 use mathlib.Core.Logic.{_⊎_, inl, inr, ⊎-elim}
 use mathlib.Core.Bool.{Bool, true, false}
 use mathlib.Core.List.{List, [], _∷_, _++_}
-use lib.ListN.{length, getD, take, drop, set, length-append}
-use lib.Seq.{append-snoc, set-split}
+use lib.ListN.{length, getD, set, length-append}
 use lib.Dec.{ltb}
 use borrow.Author.Tests.{ltb-true, ltb-false, lt-ltb, le-ltb}
 use native.Mathlib.Nat.{pow-suc}
-use native.Mathlib.Numerals.{add-one}
 use native.Mathlib.Omega.{arith}
-use Rattle.words.specs.Words.{over}
-use Rattle.words.proofs.Laws.{length-over, over-nothing, over-next}
+use Rattle.lists.proofs.Laws.{store-over, over-next}
 use Rattle.text.specs.Text.{digit, digits, digitMost, decimal, numberThen, spelled, Placed}
 
 -- a number of one digit, and one of more
@@ -148,22 +145,8 @@ decimal-front number h fits = front-digit digitMost number h fits
 
 -- text put at a place
 
-put-one : (list : List ℕ) (at byte : ℕ) → at < length list → set list at byte ≡ over list at (byte ∷ [])
-unfolding over
-put-one list at byte h = rw (set-split list at byte h, add-one at, append-snoc (take at list) byte (drop (suc at) list))
-
 pub placed-one : (list : List ℕ) (at byte : ℕ) → at < length list → Placed list at (byte ∷ []) (set list at byte) (at + 1)
-placed-one list at byte h = record { is = put-one list at byte h; next = refl }
-
--- nothing yet, and one byte more of a run
-pub run-none : (list : List ℕ) (at : ℕ) → list ≡ over list at []
-run-none list at = sym (over-nothing list at)
-
-pub run-more : (list : List ℕ) (at n : ℕ) (part : List ℕ) (byte : ℕ) → length part ≡ n → at + n < length list
-    → set (over list at part) (at + n) byte ≡ over list at (part ++ (byte ∷ []))
-run-more list at n part byte e h =
-    put-one (over list at part) (at + n) byte (rw (length-over list at part (omega arith)) h)
-    ∙ over-next list at n part (byte ∷ []) e (omega arith)
+placed-one list at byte h = record { is = store-over list at byte h; next = refl }
 
 -- a piece just past another is one piece with it
 pub placed-next : {list one two first second : List ℕ} {at n m : ℕ} → Placed list at first one n → Placed one n second two m

@@ -7,7 +7,7 @@ use mathlib.Core.Bool.{cond}
 use mathlib.Core.List.{List, [], _∷_, _++_}
 use lib.ListN.{length}
 use lib.Dec.{ltb}
-use Rattle.words.specs.Words.{over}
+use Rattle.lists.specs.Lists.{over}
 
 -- the bytes of a text
 unfoldable pub ascii : String → List ℕ

@@ -1,6 +1,6 @@
 // The units of the procedure, and the quotient rounded up.
 //
-// A time and a flow are types of their own: no call that wants vehicles takes milliseconds.
+// A time, a volume and a flow are types of their own: no call that wants one of them takes another.
 ghost use mathlib.Core.Path.{_≡_};
 ghost use Prim.Native.Nat.{_+_, _<_, _≤_, _^_};
 ghost use Rattle.units.specs.Rounding.{up};
@@ -8,8 +8,13 @@ ghost use Rattle.units.specs.Rounding.{up};
 // Milliseconds.
 pub struct Ms(pub u32);
 
-// Vehicles per hour.
+// Vehicles per hour, as they are counted and as a lane's ideal flow is given.
 pub struct Vph(pub u32);
+
+// What lanes carry, in parts of a vehicle per hour, of which FLOW_UNIT make a whole one.
+pub struct Flow(pub u32);
+
+pub const FLOW_UNIT: u64 = 1;
 
 // a / b, rounded up; 0 where b is 0.
 pub fn divide_up(a: u64, b: u64) -> u64

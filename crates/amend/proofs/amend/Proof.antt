@@ -1,6 +1,6 @@
 use Rattle.amend.proofs.Laws.{entry-accepted}
 use Rattle.amend.specs.Amend.{entriesWith, amendAnswer, amended}
-use Rattle.reach.specs.Reach.{merged}
+use Rattle.amend_reach.specs.Reach.{merged}
 use Rattle.sheet.proofs.Laws.{sheet-accepted}
 use Rattle.procedure.specs.Sheet.{sheet}
 use Rattle.entries.specs.Judging.{judged}

@@ -1,5 +1,5 @@
 use Rattle.amend.specs.Amend.{entriesWith}
-use Rattle.cells.proofs.Laws.{over-whole}
+use Rattle.lists.proofs.Laws.{over-whole}
 use denote.Ref.{now}
 use lib.Seq.{length-take-le}
 use lib.ListN.{length, take, replicate}

@@ -1,5 +1,5 @@
 use Rattle.entries.proofs.Laws.{count-most}
-use Rattle.entries.specs.Judging.{countOf, faulty}
+use Rattle.entries.specs.Judging.{refusalOf, countOf, faulty}
 use Rattle.answers.proofs.Laws.{Searched, search-starts, search-goes-on, search-finds, search-ends}
 use denote.Ref.{now}
 use borrow.Author.Needs.{needs}
@@ -10,19 +10,21 @@ use Rattle.entries.proofs.check_each.Statement.{statement}
 use Rattle.entries.proofs.check_each.Tie as tie
 
 abbrev Inv-loop : tie.InvT-loop
-Inv-loop entries why count index₀ index = Searched (faulty entries why) why (countOf why) index
+Inv-loop entries fault count index₀ index = Searched (faulty entries fault) (refusalOf fault) (countOf fault) index
 
 abbrev μ-loop : tie.MeasureT-loop
-μ-loop entries why count index₀ index = count - index
+μ-loop entries fault count index₀ index = count - index
 
 loop-holds : tie.Need-loop-holds Inv-loop μ-loop
 loop-holds c = search-starts _ _ _
 
-cast-t7 : tie.Need-cast-t7 Inv-loop μ-loop
-cast-t7 c = omega (arith, count-most (c .before .before .before .before .before .before .args .why))
+cast-t8 : tie.Need-cast-t8 Inv-loop μ-loop
+cast-t8 c = omega (arith, count-most (c .before .before .before .before .before .before .before .args .fault))
 
 returns : tie.Need-returns Inv-loop μ-loop
-returns c = search-finds _ _ _ _ (omega arith) (sym (c .before .is-faulty .ensures) ∙ c .if1 .taken) (c .before .before .before .loop .inv)
+returns c =
+    rw (c .refusal .ensures)
+    (search-finds _ _ _ _ (omega arith) (sym (c .before .before .is-faulty .ensures) ∙ c .before .if1 .taken) (c .before .before .before .before .loop .inv))
 
 loop-again : tie.Need-loop-again Inv-loop μ-loop
 loop-again c = search-goes-on _ _ _ _ (omega arith) (sym (c .before .is-faulty .ensures) ∙ c .if1 .left) (c .before .before .before .loop .inv)
@@ -33,5 +35,5 @@ returns-2 c = search-ends _ _ _ _ (omega arith) (c .before .loop .inv)
 pub check-each-spec : {M : Type 1} → statement M
 check-each-spec =
     tie.close
-    (tie.spec Inv-loop μ-loop (search needs) loop-holds (search needs) cast-t7 returns (search needs) (search needs)
+    (tie.spec Inv-loop μ-loop (search needs) loop-holds (search needs) (search needs) cast-t8 returns (search needs) (search needs)
     loop-again returns-2)

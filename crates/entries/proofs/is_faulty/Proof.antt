@@ -25,5 +25,4 @@ pub is-faulty-spec : {M : Type 1} → statement M
 is-faulty-spec =
     tie.close
     (tie.spec (search needs) is-outside-requires (search needs) is-badly-shared-requires (search needs)
-    is-unserved-requires (search needs) (search needs) (search needs) returns returns-2 returns-3
-    (λ c. search needs) (λ c. search needs) (λ c. search needs))
+    is-unserved-requires returns returns-2 returns-3)

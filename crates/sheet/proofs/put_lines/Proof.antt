@@ -2,7 +2,7 @@ use denote.Ref.{now}
 use lib.ListN.{length-append}
 use mathlib.Core.List.{_++_}
 use Prim.Native.Nat.{_≤_}
-use Rattle.cells.proofs.Laws.{over-then}
+use Rattle.lists.proofs.Laws.{over-then}
 use native.Mathlib.Omega.{arith}
 use borrow.Author.Needs.{needs}
 use Rattle.sheet.proofs.put_lines.Statement.{statement}

@@ -1,6 +1,6 @@
 -- `study::check_offset`. Cut short, wrong, or right: an offset's three answers.
 use Rattle.study.specs.Study.{offsetPlace, blockPlace}
-use Rattle.words.specs.Words.{wordAt}
+use Rattle.study_numbers.specs.Numbers.{numberAt}
 use lib.Dec.{eqb}
 use mathlib.Core.Bool.{not}
 use Rattle.study.proofs.Laws.{field-fits, field-cut, field-judged}
@@ -15,7 +15,7 @@ returns c =
     let call = c .before .before in
     let args = call .before .before .args in
     let at = offsetPlace (args .site) in
-    field-cut (args .file .now) at (call .check-whole .ensures) (not (eqb (wordAt (args .file .now) at) (blockPlace (args .sites) (args .site)))) (c .enum-told2 .given .1)
+    field-cut (args .file .now) at (call .check-whole .ensures) (not (eqb (numberAt (args .file .now) at) (blockPlace (args .sites) (args .site)))) (c .enum-told2 .given .1)
 
 read-requires : tie.Need-read-requires
 read-requires c κs =

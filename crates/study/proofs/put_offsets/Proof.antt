@@ -1,7 +1,9 @@
 -- `study::put_offsets`. The loop's invariant: the offsets placed stand packed past the count.
 use Rattle.study.specs.Study.{blockPlace}
-use Rattle.words.proofs.Laws.{packed-none, packed-more, length-table, table-more}
-use Rattle.words.specs.Words.{table, packed, over}
+use Rattle.lists.proofs.Laws.{length-table, table-more}
+use Rattle.study_numbers.proofs.Laws.{packed-none, packed-more}
+use Rattle.lists.specs.Lists.{table, over}
+use Rattle.study_numbers.specs.Numbers.{packed}
 use lib.ListN.{length}
 use native.Mathlib.Omega.{arith}
 use Prim.Native.Nat.{_≤_, _-_}

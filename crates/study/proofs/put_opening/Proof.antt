@@ -1,5 +1,5 @@
 -- `study::put_opening`. Four stores put the opening over the front.
-use Rattle.words.proofs.Laws.{four-stores}
+use Rattle.study_numbers.proofs.Laws.{four-stores}
 use lib.ListN.{length-set}
 use native.Mathlib.Omega.{arith}
 use borrow.Author.Needs.{needs}

@@ -1,4 +1,6 @@
 use native.Mathlib.Omega.{arith}
+use Prim.Native.Nat.{_-_}
+use Rattle.layout.specs.Entries.{groupCount}
 use mathlib.Core.Path.{_≡_}
 use borrow.Author.Needs.{needs}
 use Rattle.kinds.proofs.Group.at.Statement.{statement}
@@ -6,7 +8,7 @@ use Rattle.kinds.proofs.Group.at.Tie as tie
 
 returns-3 : tie.Need-returns-3
 returns-3 c =
-    let e : c .before .args .place ≡ 2 = omega arith in
+    let e : c .before .args .place ≡ groupCount - 1 = omega arith in
     rw e
 
 pub at-spec : {M : Type 1} → statement M

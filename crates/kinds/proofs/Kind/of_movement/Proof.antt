@@ -1,4 +1,6 @@
 use native.Mathlib.Omega.{arith}
+use Prim.Native.Nat.{_-_}
+use Rattle.layout.specs.Entries.{movementEntries}
 use mathlib.Core.Path.{_≡_}
 use borrow.Author.Needs.{needs}
 use Rattle.kinds.proofs.Kind.of_movement.Statement.{statement}
@@ -6,7 +8,7 @@ use Rattle.kinds.proofs.Kind.of_movement.Tie as tie
 
 returns-5 : tie.Need-returns-5
 returns-5 c =
-    let e : c .before .args .place ≡ 4 = omega arith in
+    let e : c .before .args .place ≡ movementEntries - 1 = omega arith in
     rw e
 
 pub of-movement-spec : {M : Type 1} → statement M

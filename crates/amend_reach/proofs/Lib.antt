@@ -1,0 +1,9 @@
+pub mod Copies
+pub mod Merging
+pub mod Cells
+pub mod Street
+pub mod Numbers
+pub mod Lines
+pub mod Parts
+pub mod Untouched
+pub mod Whole

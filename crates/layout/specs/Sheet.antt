@@ -1,0 +1,63 @@
+-- "The sheet is 81 entries, 28 lines of each approach, 4 cells of each pair, the last 8.": where each cell stands.
+use Prim.Native.Nat.{ℕ, _+_, _*_}
+use Rattle.layout.specs.Entries.{approachCount, entryCount}
+
+-- "28 lines of each approach"
+abbrev pub lineCount : ℕ
+lineCount = 28
+
+abbrev pub linesFrom : ℕ
+linesFrom = entryCount
+
+-- "Pairs (EB–WB, NB–SB), four cells each"
+abbrev pub pairCount : ℕ
+pairCount = 2
+
+abbrev pub pairCells : ℕ
+pairCells = 4
+
+abbrev pub pairsFrom : ℕ
+pairsFrom = linesFrom + lineCount * approachCount
+
+-- "the last 8": four right totals, combined, required, ICU, letter
+abbrev pub lastCells : ℕ
+lastCells = approachCount + 4
+
+abbrev pub lastFrom : ℕ
+lastFrom = pairsFrom + pairCells * pairCount
+
+abbrev pub sheetCount : ℕ
+sheetCount = lastFrom + lastCells
+
+-- the first line of approach a
+abbrev pub linesOf : ℕ → ℕ
+linesOf a = linesFrom + lineCount * a
+
+-- the first cell of pair q, and the one that says which total is picked
+abbrev pub pairOf : ℕ → ℕ
+pairOf q = pairsFrom + pairCells * q
+
+abbrev pub protectedCell : ℕ → ℕ
+protectedCell q = pairOf q
+
+abbrev pub permittedCell : ℕ → ℕ
+permittedCell q = pairOf q + 1
+
+abbrev pub splitCell : ℕ → ℕ
+splitCell q = pairOf q + 2
+
+abbrev pub pickCell : ℕ → ℕ
+pickCell q = pairOf q + 3
+
+-- the last, past the right totals
+abbrev pub combinedCell : ℕ
+combinedCell = lastFrom + approachCount
+
+abbrev pub requiredCell : ℕ
+requiredCell = combinedCell + 1
+
+abbrev pub icuCell : ℕ
+icuCell = requiredCell + 1
+
+abbrev pub letterCell : ℕ
+letterCell = icuCell + 1

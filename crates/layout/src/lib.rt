@@ -1,0 +1,77 @@
+// Where each entry and each cell of a sheet stands: every number from those before it.
+//
+// The definitions of the same names in specs/ say what the rules say; each function that leans on a number here is proved
+// against the definition.
+
+// EB, WB, NB, SB.
+pub const APPROACHES: usize = 4;
+
+// Left, through and right of each.
+pub const GROUPS: usize = 3;
+
+pub const MOVEMENTS: usize = GROUPS * APPROACHES;
+
+// The entries of a movement, by number.
+pub const LANES_NO: usize = 0;
+
+pub const VOLUME_NO: usize = 1;
+
+pub const IDEAL_NO: usize = 2;
+
+pub const LOST_NO: usize = 3;
+
+pub const GREEN_NO: usize = 4;
+
+pub const MOVEMENT_ENTRIES: usize = 5;
+
+// The first entry of the first approach.
+pub const APPROACHES_FROM: usize = MOVEMENT_ENTRIES * MOVEMENTS;
+
+// An approach's own entries, by number.
+pub const SHARED_NO: usize = 0;
+
+pub const WALKERS_NO: usize = 1;
+
+pub const BUTTON_NO: usize = 2;
+
+pub const CROSSING_NO: usize = 3;
+
+pub const FREE_NO: usize = 4;
+
+pub const APPROACH_ENTRIES: usize = 5;
+
+pub const CYCLE_ENTRY: usize = APPROACHES_FROM + APPROACH_ENTRIES * APPROACHES;
+
+pub const ENTRIES: usize = CYCLE_ENTRY + 1;
+
+// The lines of an approach.
+pub const LINES: usize = 28;
+
+// The first line of the first approach.
+pub const LINES_FROM: usize = ENTRIES;
+
+pub const PAIRS: usize = 2;
+
+// Protected, permitted, split, and which of them is picked.
+pub const PAIR_CELLS: usize = 4;
+
+// The first cell of the first pair.
+pub const PAIRS_FROM: usize = LINES_FROM + LINES * APPROACHES;
+
+// The right totals, combined, required, the ICU and its letter.
+pub const LAST_CELLS: usize = APPROACHES + 4;
+
+pub const LAST_FROM: usize = PAIRS_FROM + PAIR_CELLS * PAIRS;
+
+pub const CELLS: usize = LAST_FROM + LAST_CELLS;
+
+// What a pair's cells hold its pick in.
+pub const PICK: usize = 3;
+
+pub const COMBINED_CELL: usize = LAST_FROM + APPROACHES;
+
+pub const REQUIRED_CELL: usize = COMBINED_CELL + 1;
+
+pub const ICU_CELL: usize = REQUIRED_CELL + 1;
+
+pub const LETTER_CELL: usize = ICU_CELL + 1;

@@ -1,0 +1,110 @@
+// Lines 19–22: the heaviest lane, its share of lefts, and what that lane carries through oncoming traffic.
+ghost use mathlib.Core.Path.{_≡_};
+ghost use Prim.Native.Nat.{_+_, _-_, _*_, _/_, _^_, _≤_, _<_};
+ghost use Rattle.units.specs.Rounding.{up};
+ghost use Rattle.kinds.specs.declared.Kind.the-variants.{Lanes, Volume};
+ghost use Rattle.kinds.specs.Kinds.{mostOf};
+ghost use Rattle.procedure.specs.Ranges.{Fair, FairCycle};
+ghost use Rattle.procedure.specs.Lines.{heaviest, equivalent, flowA};
+ghost use Rattle.line_stages.specs.Blocks.{VolumesOf, FlowsOf, MeetingOf, LaneOf};
+use line_stages::Flows;
+use line_stages::Lane;
+use line_stages::Meeting;
+use line_stages::Volumes;
+use procedure::Approach;
+use units::Vph;
+
+// a / b, rounded up, of small numbers.
+pub fn share_out(a: u32, b: u32) -> u32
+    requires { ⌜ (a + b < 2 ^ 32) × (0 < b) ⌝ }
+    ensures { λ r. ⌜ r ≡ up a b ⌝ }
+{
+    (a + (b - 1)) / b
+}
+
+// Line 19, of the folded lefts and all that the through lanes carry.
+fn heaviest_lane(lefts: Vph, all: Vph, lanes: u32) -> Vph
+    requires { ⌜ (lefts .0 ≤ all .0) × (all .0 ≤ 3 * mostOf Volume) × (0 < lanes) × (lanes ≤ mostOf Lanes) ⌝ }
+    ensures { λ r. ⌜ (r .0 ≡ heaviest (lefts .0) (all .0) lanes) × (lefts .0 ≤ r .0) × (r .0 ≤ all .0) ⌝ }
+{
+    let each = share_out(4 * lefts.0 + all.0, lanes);
+    if each <= 5 * lefts.0 {
+        return lefts;
+    }
+    Vph(each - 4 * lefts.0)
+}
+
+// Line 20.
+fn share_of_lefts(lefts: Vph, lane: Vph) -> u32
+    requires { ⌜ (lefts .0 ≤ lane .0) × (lane .0 ≤ 3 * mostOf Volume) ⌝ }
+    ensures { λ r. ⌜ (r ≡ up (10_000 * lefts .0) (lane .0)) × (r ≤ 10_000) ⌝ }
+{
+    if lefts.0 == 0 {
+        return 0;
+    }
+    share_out(10_000 * lefts.0, lane.0)
+}
+
+// Line 21, of a share of lefts and the oncoming share. With nothing oncoming, no lefts and all lefts have the same.
+pub fn equivalent_of(share: u32, oncoming: u32, cycle: u32) -> u32
+    requires { ⌜ (share ≤ 10_000) × (oncoming ≤ 10_000) × (FairCycle cycle) ⌝ }
+    ensures { λ r. ⌜ (r ≡ equivalent share oncoming cycle) × (1 ≤ r) × (r ≤ 1_560_000) ⌝ }
+{
+    if oncoming + share * (10_000 - share) == 0 {
+        return 2_500 * cycle;
+    }
+    let q = share as u64;
+    let over = (500_000_000 + 80_000 * q - 3 * (q * q)) * cycle as u64;
+    let under = 10 * (2 * (10_000 + q) + oncoming as u64 * cycle as u64);
+    units::divide_up(over, under) as u32
+}
+
+// The inner quotient of line 22, whose divisor is 10⁴·E where all turn left.
+fn parts_of(share: u32, equivalent: u32) -> u32
+    requires { ⌜ (share ≤ 10_000) × (1 ≤ equivalent) × (equivalent ≤ 1_560_000) ⌝ }
+    ensures { λ r. ⌜ (r ≡ 1_000_000_000_000 / (100_000_000 + share * equivalent - 10_000 * share)) × (r ≤ 100_000_000) ⌝ }
+{
+    if share == 10_000 {
+        return 100_000_000 / equivalent;
+    }
+    let under = 100_000_000 + share as u64 * equivalent as u64 - 10_000 * share as u64;
+    (1_000_000_000_000 / under) as u32
+}
+
+// Line 22; at least 4, since a lane's flow is at least 714. Without lefts each lane has its part of line 6.
+pub fn flow_a(flow: Vph, share: u32, equivalent: u32, lanes: u32) -> Vph
+    requires { ⌜ (flow .0 ≤ 14_400) × (share ≤ 10_000) × (1 ≤ equivalent) × (equivalent ≤ 1_560_000) × (0 < lanes) × (714 * lanes ≤ flow .0) ⌝ }
+    ensures { λ r. ⌜ (r .0 ≡ flowA (flow .0) share equivalent lanes) × (4 ≤ r .0) × (r .0 ≤ 144_000_000) ⌝ }
+{
+    if share == 0 {
+        return Vph(flow.0 / lanes);
+    }
+    let carried = flow.0 as u64 * parts_of(share, equivalent) as u64;
+    Vph((carried / (lanes as u64 * 10_000)) as u32)
+}
+
+// Lines 19–22.
+pub fn lane_of(s: Approach, o: Approach, v: Volumes, f: Flows, m: Meeting, cycle: u32) -> Lane
+    requires { ⌜ (Fair s) × (VolumesOf s v) × (FlowsOf s f) × (MeetingOf s o m) × (FairCycle cycle) ⌝ }
+    ensures { λ r. ⌜ LaneOf s o cycle r ⌝ }
+{
+    if v.through.0 == 0 {
+        return Lane {
+            heaviest: Vph(0),
+            share: 0,
+            equivalent: 0,
+            flow: Vph(0),
+        };
+    }
+    let lanes = s.through.lanes.0;
+    let heaviest = heaviest_lane(v.foldedleft, v.through, lanes);
+    let share = share_of_lefts(v.foldedleft, heaviest);
+    let equivalent = equivalent_of(share, m.share, cycle);
+    let flow = flow_a(f.through, share, equivalent, lanes);
+    Lane {
+        heaviest,
+        share,
+        equivalent,
+        flow,
+    }
+}

@@ -1,0 +1,24 @@
+use native.Mathlib.Omega.{arith}
+use borrow.Author.Tests.{eq-eqb, ne-eqb}
+use Rattle.procedure.specs.Lines.{throughB}
+use Rattle.line_permitted.proofs.Laws.{waits-most}
+use borrow.Author.Needs.{needs}
+use Rattle.line_permitted.proofs.through_b.Statement.{statement}
+use Rattle.line_permitted.proofs.through_b.Tie as tie
+
+returns : tie.Need-returns
+returns c = rw (eq-eqb _ _ (c .if1 .taken))
+
+sub-t11 : tie.Need-sub-t11
+sub-t11 c =
+    let s = c .before .before .before .before .before .before in
+    omega (arith, waits-most (s .args .beside .0) (s .args .flow .0) (s .pre .3))
+
+returns-2 : tie.Need-returns-2
+unfolding throughB
+returns-2 c = rw (ne-eqb _ _ (c .before .before .before .before .before .if1 .left), c .before .before .before .before .time-for .ensures .0)
+
+pub through-b-spec : {M : Type 1} → statement M
+through-b-spec =
+    tie.close
+    (tie.spec returns (search needs) (search needs) (search needs) (search needs) sub-t11 (search needs) returns-2)

@@ -1,9 +1,0 @@
-use borrow.Author.Needs.{needs}
-use Rattle.names.proofs.entry_named.Statement.{statement}
-use Rattle.names.proofs.entry_named.Tie as tie
-
-returns : tie.Need-returns
-returns c = rw (c .before .before .row-of .ensures .0, c .before .row-of2 .ensures .0) at (c .entry-for .ensures)
-
-pub entry-named-spec : {M : Type 1} → statement M
-entry-named-spec = tie.close (tie.spec (search needs) (search needs) (search needs) returns)

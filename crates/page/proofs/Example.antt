@@ -1,0 +1,38 @@
+-- How a field reads: times, a factor, a whole number, the ICU, and an option that is not allowed.
+use mathlib.Core.Path.{_≡_, refl}
+use Prim.Native.Nat.{ℕ, _-_}
+use mathlib.Core.List.{List}
+use Rattle.lists.specs.Lists.{table}
+use Rattle.text.specs.Text.{ascii, joined}
+use Rattle.procedure.specs.Lines.{BLANK}
+use Rattle.page.specs.Worksheet.{fieldWidth, dropped, digitByte, numberByte, seconds, factor, percent, letter, pick, fields, shown, space}
+
+-- a whole field, from left to right
+unfoldable pub field : ℕ → ℕ → List ℕ
+field unit value = table (λ i. shown unit value (10 - i)) fieldWidth
+
+pub record Fields : Type 0 where
+  pub time : field seconds 45_732 ≡ ascii "     45.732"
+  pub nothing : field seconds 0 ≡ ascii "      0.000"
+  pub longest : field seconds 4_294_967_294 ≡ ascii "4294967.294"
+  pub blank : field seconds BLANK ≡ ascii "         NA"
+  pub share : field factor 9603 ≡ ascii "     0.9603"
+  pub tenths : field percent 829 ≡ ascii "       82.9"
+  pub level : field letter 4 ≡ ascii "          E"
+  pub picked : field pick 1 ≡ ascii "  permitted"
+  pub whole : field space 1824 ≡ ascii "       1824"
+
+pub read-so : Fields
+unfolding field table shown numberByte digitByte dropped fields joined ascii
+read-so =
+    record {
+      time = refl;
+      nothing = refl;
+      longest = refl;
+      blank = refl;
+      share = refl;
+      tenths = refl;
+      level = refl;
+      picked = refl;
+      whole = refl;
+    }

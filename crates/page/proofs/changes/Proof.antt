@@ -1,0 +1,60 @@
+-- The loop's invariant: whatever the bytes were before the heading, the rows of the cells passed stand past it.
+use Prim.Native.Nat.{ℕ, _+_, _*_, _-_, _≤_}
+use mathlib.Core.Path.{_≡_, sym, _∙_}
+use mathlib.Core.Logic.{⊎-elim}
+use mathlib.Core.List.{List}
+use lib.ListN.{length}
+use native.Mathlib.Omega.{arith}
+use borrow.Author.Needs.{needs}
+use Rattle.text.specs.Text.{ascii, Placed}
+use Rattle.page.specs.Worksheet.{rowWidth, changeHead, changeRows, cellCount, changeBytes}
+use Rattle.page.proofs.Laws.{row-told, row-untold}
+use Rattle.page.proofs.changes.Statement.{statement}
+use Rattle.page.proofs.changes.Tie as tie
+
+abbrev Inv-loop : tie.InvT-loop
+Inv-loop before after out₀ at₀ told₀ out at told =
+    (told ≤ cellCount) × (at ≤ rowWidth * (told + 1))
+    × ((list : List ℕ) → length list ≡ changeBytes → Placed list 0 changeHead out₀ at₀
+    → Placed list 0 (changeRows before after told) out at)
+
+abbrev μ-loop : tie.MeasureT-loop
+μ-loop before after out₀ at₀ told₀ out at told = cellCount - told
+
+loop-holds : tie.Need-loop-holds Inv-loop μ-loop
+unfolding changeRows
+loop-holds c = (omega arith, omega (arith, c .put-bytes .ensures .next), λ list long head. head)
+
+loop-again : tie.Need-loop-again Inv-loop μ-loop
+loop-again c =
+    let is = sym (c .before .is-told .ensures) in
+    let loop = c .before .before .before .loop in
+    let n = loop .told in
+    ⊎-elim
+    (λ w. (
+      omega arith,
+      omega (arith, w .4),
+      λ list long head. rw (w .4)
+          (row-told _ _ n (omega arith) long (is ∙ w .0 .taken) (loop .inv .2 list long head) (w .3 ∙ w .2 .ensures)),
+    ))
+    (λ w. (
+      omega arith,
+      omega (arith, w .2),
+      λ list long head. rw (w .1, w .2) (row-untold _ _ n (is ∙ w .0 .left) (loop .inv .2 list long head)),
+    ))
+    (c .if1 .came)
+
+returns : tie.Need-returns Inv-loop μ-loop
+unfolding changeHead ascii
+returns c =
+    let head = c .before .before in
+    let list = head .before .before .before .before .before .args .out .now in
+    let end : c .before .loop .told ≡ cellCount = omega arith in
+    let rows = rw end at (c .before .loop .inv .2 list (omega arith) (head .put-bytes .ensures)) in
+    (rows .is, omega (arith, rows .next))
+
+pub changes-spec : {M : Type 1} → statement M
+changes-spec =
+    tie.close
+    (tie.spec Inv-loop μ-loop (search needs) (search needs) loop-holds (search needs) (search needs) (search needs)
+    (search needs) (search needs) loop-again returns)

@@ -1,0 +1,21 @@
+-- Every cell of a sheet stands on the page, in the row and the column that are told of it.
+use mathlib.Core.Path.{_≡_, refl}
+use Prim.Native.Nat.{ℕ, _<_}
+use lib.Dec.{eqb, ltb}
+use borrow.Author.Tests.{eqb-true, ltb-true}
+use Rattle.lists.proofs.Tests.{at-each}
+use Rattle.page_form.specs.Form.{rowCount, sectionBy, sectionOf, cellIn, rowOf, columnOf}
+
+pub record OnPage (cell : ℕ) : Type 0 where
+  pub there : cellIn (rowOf cell) (columnOf cell) ≡ cell
+  pub row : rowOf cell < rowCount
+  pub column : columnOf cell < sectionOf cell .columns
+
+pub on-page : (cell : ℕ) → cell < 209 → OnPage cell
+unfolding sectionBy
+on-page cell h =
+    record {
+      there = eqb-true _ _ (at-each (λ c. eqb (cellIn (rowOf c) (columnOf c)) c) 209 refl cell h);
+      row = ltb-true _ _ (at-each (λ c. ltb (rowOf c) rowCount) 209 refl cell h);
+      column = ltb-true _ _ (at-each (λ c. ltb (columnOf c) (sectionOf c .columns)) 209 refl cell h);
+    }

@@ -1,0 +1,59 @@
+-- Laws of the cells that a line tells: the letter is one of eight, and what a filled sheet tells.
+use Prim.Native.Nat.{ℕ, _+_, _≤_}
+use mathlib.Core.Path.{_≡_, refl, _∙_}
+use mathlib.Core.List.{List}
+use lib.ListN.{length, getD, replicate}
+use borrow.Author.Tests.{eq-eqb}
+use Rattle.answers.specs.Answers.{left-by}
+use Rattle.answers.specs.declared.Answer.{Answer}
+use Rattle.answers.specs.declared.Answer.the-variants.{Accepted}
+use Rattle.answers.specs.declared.Answer.the-variants.{Refused as No}
+use Rattle.entries.specs.Layout.{entryCount}
+use Rattle.entries.specs.Judging.{judged}
+use Rattle.entries.proofs.Laws.{accepted-count}
+use Rattle.procedure.specs.Sheet.{sheetCount, lastOf, lastAt, sheet}
+use Rattle.amend_reach.proofs.Cells.{last-cell}
+use Rattle.sheet.proofs.Fits.{letter-most}
+use Rattle.sheet.specs.Fill.{sheetAnswer, fillAnswer, filled}
+use Rattle.study.specs.Study.{siteAnswer, siteEntriesAnswer, siteEntries}
+use Rattle.study_listing.specs.Listing.{letterMost, Lettered, told, siteOf}
+
+-- the letter is the last of the last eight cells
+letter-cell : (e : List ℕ) → length e ≡ entryCount → getD (sheet e) 208 0 ≤ letterMost
+unfolding lastAt lastOf
+letter-cell e whole = rw (last-cell e whole 7) (letter-most _)
+
+pub lettered : (e : List ℕ) → Lettered (siteOf e)
+unfolding siteOf
+lettered e = by (judged e) refl
+  where
+    by : (answer : Answer) → judged e ≡ answer → Lettered (told answer (sheet e))
+    by Accepted ok = letter-cell e (accepted-count e ok)
+    by (No why place) bad = tt
+
+-- a site's entries, asked for with room for them, of a file that has the site
+entries-there : (file : List ℕ) (site room : ℕ) (new old : List ℕ) → siteAnswer file site ≡ Accepted → room ≡ entryCount
+    → left-by (siteEntriesAnswer file site room) new old ≡ new
+entries-there file site room new old there sized = simp (eq-eqb room entryCount sized, there)
+
+-- filling a sheet of the right size answers as the entries are judged, and tells the site
+fill-tells : (e before : List ℕ) {answer : Answer} {after : List ℕ} → length before ≡ sheetCount
+    → answer ≡ fillAnswer e before
+    → after ≡ filled e before
+    → told answer after ≡ siteOf e
+unfolding fillAnswer filled sheetAnswer siteOf
+fill-tells e before {answer} {after} sized answers fills = by (judged e) refl
+  where
+    by : (judgement : Answer) → judged e ≡ judgement → told answer after ≡ told (judged e) (sheet e)
+    by Accepted ok = rw (answers, fills) (simp (eq-eqb (length before) sheetCount sized, ok))
+    by (No why place) bad = rw (answers, fills) (simp (eq-eqb (length before) sheetCount sized, bad))
+
+-- so what the two calls leave, in areas of noughts, tells the site of the file
+pub site-tells : (file : List ℕ) (site : ℕ) (entries : List ℕ) {answer : Answer} {after : List ℕ} → siteAnswer file site ≡ Accepted
+    → entries ≡ left-by (siteEntriesAnswer file site entryCount) (siteEntries file site) (replicate entryCount 0)
+    → answer ≡ fillAnswer entries (replicate sheetCount 0)
+    → after ≡ filled entries (replicate sheetCount 0)
+    → told answer after ≡ siteOf (siteEntries file site)
+site-tells file site entries there read answers fills =
+    let is = read ∙ entries-there file site entryCount (siteEntries file site) (replicate entryCount 0) there refl in
+    rw is at (fill-tells entries (replicate sheetCount 0) refl answers fills)

@@ -1,0 +1,144 @@
+-- Laws of the listing's lines: how a line is put piece after piece, and how long it is.
+use Prim.Native.Nat.{ℕ, zero, suc, _+_, _*_, _<_, _≤_}
+use mathlib.Core.Path.{_≡_, refl, sym}
+use mathlib.Core.List.{List, [], _∷_, _++_}
+use lib.ListN.{length, take, length-append}
+use borrow.Author.Tests.{lt-leb, le-ltb}
+use native.Mathlib.Numerals.{add-one}
+use native.Mathlib.Omega.{arith}
+use Rattle.answers.specs.Answers.{refusalNumber, placeOf, left-by}
+use Rattle.answers.specs.declared.Refusal.{Refusal}
+use Rattle.answers.specs.declared.Answer.{Answer}
+use Rattle.answers.specs.declared.Answer.the-variants.{Accepted}
+use Rattle.answers.specs.declared.Answer.the-variants.{Refused as No}
+use Rattle.lists.proofs.Laws.{over-nothing}
+use Rattle.study.specs.Study.{siteLimit, sitesOf, siteEntries, siteAnswer, judgement}
+use Rattle.study.proofs.Laws.{accepted}
+use Rattle.study.proofs.LongFile.{decisive, front-decides}
+use Rattle.text.specs.Text.{numberThen, Placed, ascii}
+use Rattle.text.proofs.Laws.{length-numberThen, placed-next}
+use Rattle.study_listing.specs.Listing.{space, lineFeed, letterByte, phasingByte, ratedLine, refusedLine, lineOf, lineMost, fileLine}
+use Rattle.study_listing.specs.Listing.{siteOf, siteLine, siteLines, listingBy, listing, areaBytes, listAnswer}
+use Rattle.study_listing.specs.declared.Rating.{Rating}
+use Rattle.study_listing.specs.declared.Site.{Site}
+use Rattle.study_listing.specs.declared.Site.the-variants.{Rated, Refused}
+
+-- what a rated site's line has past the ICU
+abbrev pub ending : Rating → List ℕ
+ending r = letterByte (r .letter) ∷ space ∷ phasingByte (r .first) ∷ phasingByte (r .second) ∷ lineFeed ∷ []
+
+-- how long a line is
+
+pub length-lineOf : (number : ℕ) (site : Site) → length (lineOf number site) ≤ lineMost
+unfolding ratedLine refusedLine
+length-lineOf number (Rated r) =
+    let first = numberThen number space in
+    let second = numberThen (r .icu) space in
+    omega (arith, length-append (first ++ second) (ending r), length-append first second, length-numberThen number space, length-numberThen (r .icu) space)
+length-lineOf number (Refused why place) =
+    let first = numberThen number space in
+    let second = numberThen (refusalNumber why) space in
+    let third = numberThen place lineFeed in
+    omega (
+      arith,
+      length-append (first ++ (82 ∷ []) ++ second) third,
+      length-append (first ++ (82 ∷ [])) second,
+      length-append first (82 ∷ []),
+      length-numberThen number space,
+      length-numberThen (refusalNumber why) space,
+      length-numberThen place lineFeed,
+    )
+
+pub length-fileLine : (place : ℕ) → length (fileLine place) ≤ lineMost
+unfolding fileLine ascii
+length-fileLine place = omega (arith, length-numberThen place lineFeed)
+
+-- a line is put piece after piece
+
+module _ {list one two three : List ℕ} {at n m p : ℕ} (number : ℕ) (room : at + lineMost ≤ length list) (first : Placed list at (numberThen number space) one n) where
+  pub rated-placed : (r : Rating) → Placed one n (numberThen (r .icu) space) two m → Placed two m (ending r) three p
+      → Placed list at (ratedLine number r) three p
+  unfolding ratedLine
+  rated-placed r second third =
+      let l = length-append (numberThen number space) (numberThen (r .icu) space) in
+      let h = length-numberThen number space in
+      let k = length-numberThen (r .icu) space in
+      placed-next (placed-next first second (omega arith)) third (omega arith)
+
+  pub refused-placed : {four : List ℕ} {q : ℕ} (why : Refusal) (place : ℕ)
+      → Placed one n (82 ∷ []) two m
+      → Placed two m (numberThen (refusalNumber why) space) three p
+      → Placed three p (numberThen place lineFeed) four q
+      → Placed list at (refusedLine number why place) four q
+  unfolding refusedLine
+  refused-placed why place second third fourth =
+      let head = numberThen number space ++ (82 ∷ []) in
+      let l = length-append (numberThen number space) (82 ∷ []) in
+      let m = length-append head (numberThen (refusalNumber why) space) in
+      let h = length-numberThen number space in
+      let i = length-numberThen (refusalNumber why) space in
+      let k = length-numberThen place lineFeed in
+      placed-next (placed-next (placed-next first second (omega arith)) third (omega arith)) fourth (omega arith)
+
+-- the lines of the first n sites
+
+pub length-siteLines : (file : List ℕ) (n : ℕ) → length (siteLines file n) ≤ lineMost * n
+unfolding siteLines
+length-siteLines file zero = omega arith
+length-siteLines file (suc n) =
+    let e = siteEntries file n in
+    omega (arith, length-append (siteLines file n) (siteLine (n + 1) e), length-siteLines file n, length-lineOf (n + 1) (siteOf e))
+
+pub no-lines : (list file : List ℕ) → Placed list 0 (siteLines file 0) list 0
+unfolding siteLines
+no-lines list file = record { is = sym (over-nothing list 0); next = refl }
+
+pub one-line-more : {list one two : List ℕ} {at past : ℕ} (file : List ℕ) (n : ℕ) → n < siteLimit → areaBytes ≤ length list
+    → Placed list 0 (siteLines file n) one at
+    → Placed one at (siteLine (n + 1) (siteEntries file n)) two past
+    → Placed list 0 (siteLines file (n + 1)) two past
+unfolding siteLines
+one-line-more file n few room lines line =
+    rw (add-one n)
+    (placed-next lines line (omega (arith, length-siteLines file n, length-lineOf (n + 1) (siteOf (siteEntries file n)))))
+
+-- a good file has each of its sites
+pub has-site : (file : List ℕ) (site : ℕ) → judgement file ≡ Accepted → site < sitesOf file → siteAnswer file site ≡ Accepted
+has-site file site good there = simp (good, lt-leb (sitesOf file) site there)
+
+-- the listing of a good file, and of a bad one
+
+pub good-listing : (file : List ℕ) → judgement file ≡ Accepted → listing file ≡ siteLines file (sitesOf file)
+unfolding listing
+good-listing file good = simp good
+
+pub bad-listing : {answer : Answer} {why : Refusal} {place : ℕ} (file : List ℕ) → answer ≡ judgement file → answer ≡ No why place
+    → listing file ≡ fileLine (placeOf answer)
+unfolding listing
+bad-listing file answers bad = simp (← answers, bad)
+
+-- the whole listing of any bytes fits an area of this size
+pub length-listing : (file : List ℕ) → length (listing file) ≤ areaBytes
+unfolding listing
+length-listing file = by (judgement file) refl
+  where
+    by : (answer : Answer) → judgement file ≡ answer → length (listingBy answer file) ≤ areaBytes
+    by Accepted good = omega (arith, length-siteLines file (sitesOf file), accepted file good .few)
+    by (No why place) bad = omega (arith, length-fileLine place)
+
+-- so it is never refused for want of room there
+always-listed : (file : List ℕ) (room : ℕ) → areaBytes ≤ room → listAnswer file room ≡ Accepted
+always-listed file room h = simp (le-ltb room (length (listing file)) (omega (arith, length-listing file)))
+
+-- and what is told of its length lies within the area
+pub told-fits : (file : List ℕ) (room old : ℕ) → areaBytes ≤ room → left-by (listAnswer file room) (length (listing file)) old ≤ room
+told-fits file room old h = simp (always-listed file room h) (omega (arith, length-listing file))
+
+-- the first bytes of a long input are listed as the whole is: it is a bad file, refused at the same place
+pub front-lists : (file : List ℕ) (m : ℕ) → decisive ≤ m → m ≤ length file → listing (take m file) ≡ listing file
+unfolding listing
+front-lists file m enough long = by (judgement file) refl
+  where
+    by : (answer : Answer) → judgement file ≡ answer → listingBy (judgement (take m file)) (take m file) ≡ listingBy (judgement file) file
+    by Accepted good = absurd (omega (arith, accepted file good .few, accepted file good .size))
+    by (No why place) bad = rw (front-decides file m enough long, bad)

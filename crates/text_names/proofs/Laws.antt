@@ -1,0 +1,84 @@
+-- Laws of the words in the table, of a word that is compared with a row, and of the search for its row.
+use Prim.Native.Nat.{ℕ, zero, suc, _+_, _≤_, _<_}
+use mathlib.Core.Path.{_≡_, refl, sym, _∙_}
+use mathlib.Core.Bool.{Bool, true, false, cond}
+use mathlib.Core.List.{List, [], _∷_, _++_, append-nil}
+use lib.ListN.{length, getD, length-append}
+use lib.Dec.{eqb, ltb}
+use borrow.Author.Tests.{eq-eqb, ne-eqb, lt-ltb, le-ltb}
+use native.Mathlib.Numerals.{add-one}
+use native.Mathlib.Omega.{arith}
+use Rattle.text.specs.Text.{Placed}
+use Rattle.lists.proofs.Laws.{over-none}
+use Rattle.text.proofs.Laws.{placed-next}
+use Rattle.text_names.specs.Names.{wordByte, wordIn, wordOf, wordWidth, wordCount, padded, agrees, isWord, foundIn}
+
+-- within a list it does not matter what stands past its end
+pub within : (list : List ℕ) (i d e : ℕ) → i < length list → getD list i d ≡ getD list i e
+within [] i d e h = absurd (omega arith)
+within (x ∷ list) zero d e h = refl
+within (x ∷ list) (suc i) d e h = within list i d e (omega arith)
+
+-- the words of the table
+
+module _ (row : ℕ) where
+  length-next : (n : ℕ) (blank : Bool) → length (wordIn row n) ≤ n → length (wordIn row n ++ cond blank [] (wordByte row n ∷ [])) ≤ suc n
+  length-next n true h = rw append-nil (omega arith)
+  length-next n false h = rw length-append (omega arith)
+
+  pub length-wordIn : (n : ℕ) → length (wordIn row n) ≤ n
+  unfolding wordIn
+  length-wordIn zero = omega arith
+  length-wordIn (suc n) = length-next n (eqb (wordByte row n) 32) (length-wordIn n)
+
+  pub length-word : length (wordOf row) ≤ wordWidth
+  length-word = length-wordIn wordWidth
+
+  -- a word that is being put: nothing yet, past a blank, and past any other byte
+  pub word-none : (list : List ℕ) (at : ℕ) → Placed list at (wordIn row 0) list at
+  unfolding wordIn
+  word-none list at = record { is = over-none list at; next = omega arith }
+
+  module _ (n byte : ℕ) (e : byte ≡ wordByte row n) {list one : List ℕ} {at past : ℕ} (p : Placed list at (wordIn row n) one past) where
+    pub word-blank : byte ≡ 32 → Placed list at (wordIn row (n + 1)) one past
+    unfolding wordIn
+    word-blank blank = rw (add-one n, ← e, eq-eqb byte 32 blank, append-nil) p
+
+    pub word-more : {two : List ℕ} {end : ℕ} → (byte ≡ 32 → ⊥) → at + n < length list → Placed one past (byte ∷ []) two end
+        → Placed list at (wordIn row (n + 1)) two end
+    unfolding wordIn
+    word-more black room q = rw (add-one n, ← e, ne-eqb byte 32 black) (placed-next p q (omega (arith, length-wordIn n)))
+
+-- a word and a row, byte by byte
+
+module _ (word : List ℕ) (row n one two : ℕ) (p : one ≡ padded word n) (q : two ≡ wordByte row n) where
+  pub agrees-on : {same : Bool} → same ≡ agrees word row n → one ≡ two → same ≡ agrees word row (n + 1)
+  unfolding agrees
+  agrees-on so e = so ∙ rw (add-one n, ← p, ← q, eq-eqb one two e) (sym (kept (agrees word row n)))
+    where
+      kept : (b : Bool) → cond b true false ≡ b
+      kept true = refl
+      kept false = refl
+
+  pub agrees-not : (one ≡ two → ⊥) → false ≡ agrees word row (n + 1)
+  unfolding agrees
+  agrees-not e = rw (add-one n, ← p, ← q, ne-eqb one two e) (none (agrees word row n))
+    where
+      none : (b : Bool) → false ≡ cond b false false
+      none true = refl
+      none false = refl
+
+-- the search for a word's row
+
+module _ (word : List ℕ) (n found : ℕ) (so : found ≡ foundIn word n) where
+  pub found-before : found ≤ wordCount → (found ≡ wordCount → ⊥) → found ≡ foundIn word (n + 1)
+  unfolding foundIn
+  found-before most e = rw (add-one n, ← so, lt-ltb found wordCount (omega (arith, e)))
+
+  pub found-here : found ≡ wordCount → isWord word n ≡ true → n ≡ foundIn word (n + 1)
+  unfolding foundIn
+  found-here e is = rw (add-one n, ← so, e, is)
+
+  pub found-not : found ≡ wordCount → isWord word n ≡ false → found ≡ foundIn word (n + 1)
+  unfolding foundIn
+  found-not e is = rw (add-one n, ← so, e, is)

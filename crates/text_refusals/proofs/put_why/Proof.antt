@@ -1,0 +1,24 @@
+-- `says::put_why`. What is said in each case.
+use Rattle.text_refusals.proofs.Laws.{why-placed}
+use Rattle.text_refusals.specs.Says.{whyText}
+use Rattle.text.specs.Text.{ascii}
+use borrow.Author.Needs.{needs}
+use Rattle.text_refusals.proofs.put_why.Statement.{statement}
+use Rattle.text_refusals.proofs.put_why.Tie as tie
+
+shared : tie.Need-returns-4
+unfolding whyText ascii
+shared c =
+    let call = c .before .before in
+    let row = call .before .before in
+    why-placed _ (row .before .before .enum-told4 .given .1) (rw (row .approach-row .ensures) at (call .put-named .ensures))
+
+pub put-why-spec : {M : Type 1} → statement M
+unfolding whyText ascii
+put-why-spec =
+    tie.close
+    (tie.spec (search needs) (search needs) (search needs) (search needs) (search needs) (search needs) (search needs)
+    (search needs) (search needs) (search needs) (search needs) (search needs) (search needs) (search needs)
+    (search needs) (search needs) (search needs) (search needs) (λ c. search why-placed) (search needs)
+    (λ c. search why-placed) (search needs) (λ c. search why-placed) (search needs) shared (search needs)
+    (λ c. search why-placed) (search needs) (λ c. search why-placed))

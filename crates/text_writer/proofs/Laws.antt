@@ -1,0 +1,111 @@
+-- Laws of the text of entries: how long it is, and how it is put piece after piece.
+use Prim.Native.Nat.{ℕ, zero, suc, _+_, _*_, _%_, _<_, _≤_}
+use mathlib.Core.Path.{_≡_, refl, sym}
+use mathlib.Core.Bool.{Bool, true, false, cond}
+use mathlib.Core.List.{List, [], _∷_, _++_}
+use lib.ListN.{length, getD, length-append}
+use lib.Dec.{eqb, ltb}
+use borrow.Author.Tests.{eq-eqb, ne-eqb, ltb-true}
+use native.Mathlib.Numerals.{add-one}
+use native.Mathlib.Omega.{arith}
+use Rattle.lists.proofs.Tests.{at-each}
+use Rattle.entries.specs.Layout.{entryCount}
+use Rattle.lists.proofs.Laws.{over-nothing}
+use Rattle.text.specs.Text.{numberThen, Placed}
+use Rattle.text.proofs.Laws.{length-numberThen, placed-next}
+use Rattle.text_names.specs.Names.{wordWidth, groupCount, wordCount, wordOf, groupOf, kindOf}
+use Rattle.text_names.proofs.Laws.{length-word}
+use Rattle.text_writer.specs.Writer.{space, opening, openingMost, closing, entryText, entryMost, entryTexts}
+
+-- each entry's kind has its word
+pub has-word : (i : ℕ) → i < entryCount → groupCount + kindOf i < wordCount
+has-word i h =
+    ltb-true (groupCount + kindOf i) wordCount
+    (at-each (λ i. ltb (groupCount + kindOf i) wordCount) entryCount refl i h)
+
+-- where a word ends that was put
+pub number-past : {list one : List ℕ} {at n : ℕ} (row : ℕ) → Placed list at (wordOf row) one n → n ≤ at + wordWidth
+number-past row p = omega (arith, p .next, length-word row)
+
+-- a name and the space past it
+
+length-name : (row : ℕ) → length (wordOf row ++ (space ∷ [])) ≤ openingMost
+length-name row = omega (arith, length-append (wordOf row) (space ∷ []), length-word row)
+
+pub length-opening : (i : ℕ) → length (opening i) ≤ openingMost
+unfolding opening
+length-opening i = by (eqb (i % 5) 0)
+  where
+    by : (b : Bool) → length (cond b (wordOf (groupOf i) ++ (space ∷ [])) []) ≤ openingMost
+    by true = length-name (groupOf i)
+    by false = omega arith
+
+module _ {list : List ℕ} {at : ℕ} (i : ℕ) where
+  pub opening-past : {one : List ℕ} {n : ℕ} → Placed list at (opening i) one n → n ≤ at + openingMost
+  opening-past p = omega (arith, p .next, length-opening i)
+
+  pub no-opening : (i % 5 ≡ 0 → ⊥) → Placed list at (opening i) list at
+  unfolding opening
+  no-opening later = simp (ne-eqb (i % 5) 0 later) (record { is = sym (over-nothing list at); next = omega arith })
+
+  pub opening-put : {one two : List ℕ} {n m : ℕ} → i % 5 ≡ 0 → at + openingMost ≤ length list
+      → Placed list at (wordOf (groupOf i)) one n → Placed one n (space ∷ []) two m
+      → Placed list at (opening i) two m
+  unfolding opening
+  opening-put first room p q = simp (eq-eqb (i % 5) 0 first) (placed-next p q (omega (arith, length-word (groupOf i))))
+
+-- an entry
+
+pub length-entryText : (i value : ℕ) → length (entryText i value) ≤ entryMost
+unfolding entryText
+length-entryText i value =
+    let word = wordOf (groupCount + kindOf i) in
+    let number = numberThen value (closing i) in
+    omega (
+      arith,
+      length-append (opening i ++ word ++ (space ∷ [])) number,
+      length-append (opening i ++ word) (space ∷ []),
+      length-append (opening i) word,
+      length-opening i,
+      length-word (groupCount + kindOf i),
+      length-numberThen value (closing i),
+    )
+
+pub entry-put : {list one two three four : List ℕ} {at n m p q : ℕ} (i value : ℕ) → at + entryMost ≤ length list
+    → Placed list at (opening i) one n
+    → Placed one n (wordOf (groupCount + kindOf i)) two m
+    → Placed two m (space ∷ []) three p
+    → Placed three p (numberThen value (closing i)) four q
+    → Placed list at (entryText i value) four q
+unfolding entryText
+entry-put i value room opened named spaced told =
+    let word = wordOf (groupCount + kindOf i) in
+    let l = length-append (opening i) word in
+    let k = length-append (opening i ++ word) (space ∷ []) in
+    let a = length-opening i in
+    let b = length-word (groupCount + kindOf i) in
+    let d = length-numberThen value (closing i) in
+    placed-next (placed-next (placed-next opened named (omega arith)) spaced (omega arith)) told (omega arith)
+
+-- the first n entries
+
+module _ (e : List ℕ) where
+  pub length-entryTexts : (n : ℕ) → length (entryTexts e n) ≤ entryMost * n
+  unfolding entryTexts
+  length-entryTexts zero = omega arith
+  length-entryTexts (suc n) =
+      let value = getD e n 0 in
+      omega (arith, length-append (entryTexts e n) (entryText n value), length-entryTexts n, length-entryText n value)
+
+  pub no-entries : (list : List ℕ) → Placed list 0 (entryTexts e 0) list 0
+  unfolding entryTexts
+  no-entries list = record { is = sym (over-nothing list 0); next = refl }
+
+  pub one-entry-more : {list one two : List ℕ} {at past : ℕ} (n : ℕ) → entryMost * (n + 1) ≤ length list
+      → Placed list 0 (entryTexts e n) one at
+      → Placed one at (entryText n (getD e n 0)) two past
+      → Placed list 0 (entryTexts e (n + 1)) two past
+  unfolding entryTexts
+  one-entry-more n room texts text =
+      rw (add-one n)
+      (placed-next texts text (omega (arith, length-entryTexts n, length-entryText n (getD e n 0))))

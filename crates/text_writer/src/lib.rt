@@ -1,0 +1,63 @@
+// A junction's entries as text: a line for each group, with the names and values of its entries.
+ghost use mathlib.Core.Path.{_≡_};
+ghost use Prim.Native.Nat.{_+_, _<_, _≤_};
+ghost use lib.ListN.{length};
+ghost use Rattle.entries.specs.Layout.{entryCount};
+ghost use Rattle.lists.specs.Lists.{over};
+ghost use Rattle.text.specs.Text.{Placed};
+ghost use Rattle.text_writer.specs.Writer.{opening, openingMost, closing, entryText, entryMost, junctionText};
+
+// Room for the text of any entries.
+pub const TEXT_BYTES: usize = 4096;
+
+const LAST: u32 = 80;
+
+// The name of the group whose first entry this is.
+fn put_opening(out: &mut [u8], at: usize, entry: u32) -> usize
+    requires { ⌜ (entry < entryCount) × (at + openingMost ≤ length (now out)) ⌝ }
+    ensures { λ r. ⌜ Placed (now (out .entry)) at (opening entry) (now (out .exit)) r ⌝ }
+{
+    if entry % 5 != 0 {
+        return at;
+    }
+    let end = text_names::put_word(out, at, text_names::group_of(entry));
+    text::put_byte(out, end, b' ')
+}
+
+fn closing(entry: u32) -> u8
+    ensures { λ r. ⌜ r ≡ closing entry ⌝ }
+{
+    if entry % 5 == 4 {
+        return b'\n';
+    }
+    if entry == LAST {
+        return b'\n';
+    }
+    b' '
+}
+
+fn put_entry(out: &mut [u8], at: usize, entry: u32, value: u32) -> usize
+    requires { ⌜ (entry < entryCount) × (at + entryMost ≤ length (now out)) ⌝ }
+    ensures { λ r. ⌜ Placed (now (out .entry)) at (entryText entry value) (now (out .exit)) r ⌝ }
+{
+    let row = text_names::GROUPS + text_names::kind_of(entry);
+    let byte = closing(entry);
+    let opened = put_opening(out, at, entry);
+    let named = text_names::put_word(out, opened, row);
+    let end = text::put_byte(out, named, b' ');
+    text::put_number_then(out, end, value, byte)
+}
+
+// Writes the text of any entries to the front of the lent bytes, and tells its length; the bytes past it stay.
+pub fn write(entries: &[u32; entries::COUNT], out: &mut [u8; TEXT_BYTES]) -> usize
+    ensures { λ r. ⌜ now (out .exit) ≡ over (now (out .entry)) 0 (junctionText (now (entries .entry))) ⌝ }
+    ensures { λ r. ⌜ r ≡ length (junctionText (now (entries .entry))) ⌝ }
+{
+    let mut at: usize = 0;
+    let mut entry: usize = 0;
+    while entry < entries::COUNT {
+        at = put_entry(out, at, entry as u32, entries[entry]);
+        entry += 1;
+    }
+    at
+}
