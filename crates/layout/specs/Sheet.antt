@@ -29,6 +29,10 @@ lastFrom = pairsFrom + pairCells * pairCount
 abbrev pub sheetCount : ℕ
 sheetCount = lastFrom + lastCells
 
+-- "BLANK is 4,294,967,295 and stands for 'not allowed'": the largest number of 32 bits
+abbrev pub BLANK : ℕ
+BLANK = 4_294_967_295
+
 -- the first line of approach a
 abbrev pub linesOf : ℕ → ℕ
 linesOf a = linesFrom + lineCount * a

@@ -1,4 +1,5 @@
 // What one stage of the lines hands to the next: a value for each line, in its unit.
+use units::Flow;
 use units::Ms;
 use units::Vph;
 
@@ -15,11 +16,11 @@ pub struct Volumes {
 // Lines 4–9.
 pub struct Flows {
     pub turning: u32,
-    pub left: Vph,
-    pub through: Vph,
-    pub right: Vph,
-    pub straight: Vph,
-    pub lefts: Vph,
+    pub left: Flow,
+    pub through: Flow,
+    pub right: Flow,
+    pub straight: Flow,
+    pub lefts: Flow,
 }
 
 // Lines 10–12.
@@ -39,6 +40,14 @@ pub struct Times {
     pub adjustedright: Ms,
 }
 
+// Lines 1–18, which look at the approach alone.
+pub struct First {
+    pub volumes: Volumes,
+    pub flows: Flows,
+    pub walking: Walking,
+    pub times: Times,
+}
+
 // What the oncoming approach does to this one.
 pub struct Meeting {
     pub share: u32,
@@ -47,11 +56,11 @@ pub struct Meeting {
 }
 
 // Lines 19–22.
-pub struct Lane {
+pub struct LeftLane {
     pub heaviest: Vph,
     pub share: u32,
     pub equivalent: u32,
-    pub flow: Vph,
+    pub flow: Flow,
 }
 
 // Lines 23–26.
@@ -66,4 +75,17 @@ pub struct Permitted {
 pub struct Split {
     pub largest: Ms,
     pub weighted: Ms,
+}
+
+// Lines 19–28, which look across the street.
+pub struct Later {
+    pub lane: LeftLane,
+    pub permitted: Permitted,
+    pub split: Split,
+}
+
+// All lines of an approach.
+pub struct Lines {
+    pub first: First,
+    pub later: Later,
 }

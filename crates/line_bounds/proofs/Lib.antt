@@ -1,0 +1,6 @@
+pub mod Numbers
+pub mod Flows
+pub mod Times
+pub mod LeftLane
+pub mod Permitted
+pub mod Lines

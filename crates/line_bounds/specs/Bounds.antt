@@ -1,0 +1,98 @@
+-- How large the lines of an acceptable approach can be: each bound once, worked out from the kinds' limits and the bounds before it.
+use mathlib.Core.Path.{_≡_}
+use Prim.Native.Nat.{ℕ, _+_, _*_, _/_, _≤_, max}
+use Rattle.units.specs.Unit.{flowUnit}
+use Rattle.layout.specs.Entries.{groupCount}
+use Rattle.layout.specs.Sheet.{BLANK}
+use Rattle.kinds.specs.declared.Kind.the-variants.{Lanes, Volume, IdealFlow, LostTime, MinimumGreen, PedestrianTime, Cycle}
+use Rattle.kinds.specs.Kinds.{limitsOf, mostOf}
+
+-- factors, shares and frequencies are ten-thousandths
+abbrev pub whole : ℕ
+whole = 10_000
+
+-- lines 1–3: all that an approach's movements count (29,997)
+abbrev pub mostVolume : ℕ
+mostVolume = groupCount * mostOf Volume
+
+-- line 4: all turn right, at 85 of each hundred, and all turn left, at 95
+abbrev pub leastTurning : ℕ
+leastTurning = 85 * 95
+
+-- line 8: all turn right
+abbrev pub leastStraight : ℕ
+leastStraight = 85 * 100
+
+-- Table 5-2, in thousandths
+abbrev pub leastFactor : ℕ
+leastFactor = 885
+
+abbrev pub mostFactor : ℕ
+mostFactor = 1_000
+
+-- lines 5–9: what one lane carries at least, and six at most (714 and 14,400)
+abbrev pub leastLaneFlow : ℕ
+leastLaneFlow = limitsOf IdealFlow .least * leastFactor * leastTurning / (10_000_000 / flowUnit)
+
+abbrev pub mostFlow : ℕ
+mostFlow = mostOf IdealFlow * mostOf Lanes * flowUnit
+
+-- how many times the flow that serves it a volume can be (43)
+abbrev pub mostServed : ℕ
+mostServed = mostVolume * flowUnit / leastLaneFlow + 1
+
+-- 10, 11: "G = 24,000 − ⌊..⌋"
+abbrev pub mostHeld : ℕ
+mostHeld = 24_000
+
+-- "1000·v·CL/flow", of a volume of k times the flow, in the longest cycle
+abbrev pub mostTime : ℕ → ℕ
+mostTime k = 1000 * mostOf Cycle * k
+
+-- 13–15 and 27 (10,344,000)
+abbrev pub mostReference : ℕ
+mostReference = mostTime mostServed + mostHeld
+
+-- what lost time, minimum green and walkers add to a reference time (80,000)
+abbrev pub mostAdded : ℕ
+mostAdded = mostOf LostTime + max (mostOf MinimumGreen) (mostOf PedestrianTime)
+
+-- 16–18 and 28 (10,424,000)
+abbrev pub mostAdjusted : ℕ
+mostAdjusted = mostReference + mostAdded
+
+-- 21: "num = 5·10⁸ + 80,000q − 3q²" is at most 1.3·10⁹, "10·den" at least 2·10⁵ (1,560,000)
+abbrev pub mostNum : ℕ
+mostNum = 1_300_000_000
+
+abbrev pub mostEquivalent : ℕ
+mostEquivalent = mostNum * mostOf Cycle / 200_000
+
+-- 22: the inner quotient "⌊10¹²/(10⁸ + q(E−10⁴))⌋", whose divisor is at least 10⁴ (63 and 10⁸)
+abbrev pub leastParts : ℕ
+leastParts = 1_000_000_000_000 / (100_000_000 + whole * mostEquivalent)
+
+abbrev pub mostParts : ℕ
+mostParts = 1_000_000_000_000 / 10_000
+
+-- and what the lane carries (4 and 144,000,000)
+abbrev pub leastMixed : ℕ
+leastMixed = leastLaneFlow * leastParts / 10_000
+
+abbrev pub mostMixed : ℕ
+mostMixed = mostFlow * mostParts / 10_000
+
+-- how many times that flow a volume can be (7,500)
+abbrev pub mostMixedServed : ℕ
+mostMixedServed = mostVolume * flowUnit / leastMixed + 1
+
+-- 23–25, where they are times (1,800,024,000), and 26
+abbrev pub mostOption : ℕ
+mostOption = mostTime mostMixedServed + mostHeld
+
+abbrev pub mostPermitted : ℕ
+mostPermitted = mostOption + mostAdded
+
+-- a cell that may be BLANK is a time otherwise
+abbrev pub Timely : ℕ → ℕ → Type 0
+Timely most x = (x ≡ BLANK → ⊥) → x ≤ most
