@@ -19,8 +19,8 @@ use Rattle.procedure.specs.Lines.{a, b, volume, vC, vST, fT, flowOf, flow, sST,
 use Rattle.procedure.specs.Lines.{allowedA, allowedB, empty, line23, line24, line25, line26, sB, throughB, optionB, lesser}
 use Rattle.line_bounds.specs.Bounds.{whole, mostVolume, leastStraight, mostServed, mostHeld, mostMixedServed, mostAdded, mostOption, mostPermitted, Timely}
 use Rattle.line_bounds.proofs.Numbers.{up-covers, shared-out, part-most}
-use Rattle.line_bounds.proofs.Flows.{volumes, turning-between, straight-between, straight-alike, group-serving, straight-serving, lefts-serving}
-use Rattle.line_bounds.proofs.Times.{time-most, interference-most, weighed-added}
+use Rattle.line_bounds.proofs.Flows.{volumes, turning-between, straight-between, straight-alike, group-serving}
+use Rattle.line_bounds.proofs.Times.{time-most, passes-most, straight-passes, lefts-pass, interference-most, weighed-added}
 use Rattle.line_bounds.proofs.LeftLane.{carries, carried, share-within}
 
 -- ---- what option B takes off
@@ -178,8 +178,8 @@ module _ (s : Approach) (CL : ℕ) (fair : Fair s) (cycle : FairCycle CL) where
   optionB-most : optionB s CL ≤ mostOption
   unfolding optionB throughB
   optionB-most =
-      let straight = time-most mostServed (vST s) CL (sST s) (cycle .most) (straight-serving s fair .serves) in
-      let lefts = time-most mostServed (v s Left) CL (sSL s) (cycle .most) (lefts-serving s fair .serves) in
+      let straight = passes-most (straight-passes s CL fair cycle) in
+      let lefts = passes-most (lefts-pass s CL fair cycle) in
       let held = interference-most s CL Through in
       let through : throughB (vST s) (sST s) (sB s) (interference s Through CL) CL ≤ mostOption = omega (arith, straight, held) in
       let left : 8_000 + time (v s Left) CL (sSL s) ≤ mostOption = omega (arith, lefts) in

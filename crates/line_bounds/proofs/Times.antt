@@ -20,9 +20,9 @@ use Rattle.procedure.specs.Approach.{n, v, p, lost, green, crossing, hasButton}
 use Rattle.procedure.specs.Lines.{volume, vC, vST, flow, sST, sSL, G, interference, frequency, F, time, reference, adjustedOf, weightedOf, weighted, adjusted}
 use Rattle.procedure.specs.Lines.{empty, line27, line28}
 use Rattle.procedure.specs.Ranges.{Fair, FairCycle}
-use Rattle.line_bounds.specs.Bounds.{whole, mostVolume, mostServed, mostHeld, mostTime, mostReference, mostAdded, mostAdjusted}
+use Rattle.line_bounds.specs.Bounds.{whole, mostVolume, mostServed, Passes, mostHeld, mostTime, mostReference, mostAdded, mostAdjusted}
 use Rattle.line_bounds.proofs.Numbers.{chosen-most, part-most}
-use Rattle.line_bounds.proofs.Flows.{rights-within, group-serving, straight-serving, lefts-serving}
+use Rattle.line_bounds.proofs.Flows.{rights-within, volumes, group-serving, straight-serving, lefts-serving}
 
 -- ---- over plain numbers
 
@@ -89,9 +89,12 @@ weighted-added lost minimum crossing F reference h k l m =
     let beyond = max (max minimum reference) crossing - max minimum reference in
     omega (arith, walkers-share beyond F m)
 
--- the time of a volume with what holds it up
-pub held-most : (v CL flow x : ℕ) → CL ≤ mostOf Cycle → flowUnit * v ≤ mostServed * flow → x ≤ mostHeld → time v CL flow + x ≤ mostReference
-held-most v CL flow x cycle serves held = omega (arith, time-most mostServed v CL flow cycle serves)
+-- the time of a volume, with what holds it up
+pub passes-most : {v CL flow : ℕ} → Passes v CL flow → time v CL flow ≤ mostTime mostServed
+passes-most {v} {CL} {flow} h = time-most mostServed v CL flow (h .cycle) (h .serves)
+
+pub held-most : {v CL flow : ℕ} (x : ℕ) → Passes v CL flow → x ≤ mostHeld → time v CL flow + x ≤ mostReference
+held-most {v} {CL} {flow} x h held = omega (arith, passes-most h)
 
 -- ---- of an acceptable approach
 
@@ -123,12 +126,27 @@ module _ (s : Approach) (CL : ℕ) where
     turn-added g x = adjusted-added (lost s g) (green s g) x (ok .group g .lost .most) (ok .group g .green .most)
 
     module _ (cycle : FairCycle CL) where
+      -- the volumes of the groups, of the through without folded lefts, and of the lefts can be timed
+      pub group-passes : (g : Group) → Passes (volume s g) CL (flow s g)
+      group-passes g =
+          let served = group-serving s ok g in
+          record { counted = volumes s ok .all g; cycle = cycle .most; most = served .most; serves = served .serves }
+
+      pub straight-passes : Passes (vST s) CL (sST s)
+      straight-passes =
+          let served = straight-serving s ok in
+          let counted = volumes s ok in
+          record { counted = omega (arith, counted .straight, counted .through); cycle = cycle .most; most = served .most; serves = served .serves }
+
+      pub lefts-pass : Passes (v s Left) CL (sSL s)
+      lefts-pass =
+          let served = lefts-serving s ok in
+          record { counted = omega (arith, volumes s ok .lefts); cycle = cycle .most; most = served .most; serves = served .serves }
+
       -- 13–15
       pub reference-most : (g : Group) → reference s g CL ≤ mostReference
       unfolding reference
-      reference-most g =
-          part-most (volume s g)
-          (λ some. held-most (volume s g) CL (flow s g) (interference s g CL) (cycle .most) (group-serving s ok g .serves) (interference-most g))
+      reference-most g = part-most (volume s g) (λ some. held-most (interference s g CL) (group-passes g) (interference-most g))
 
       -- 16–18
       pub adjusted-most : (g : Group) → adjusted s g CL ≤ mostAdjusted
@@ -141,10 +159,9 @@ module _ (s : Approach) (CL : ℕ) where
       pub line27-most : line27 s CL ≤ mostReference
       unfolding line27
       line27-most =
-          let straight = held-most (vST s) CL (sST s) (interference s Through CL) (cycle .most) (straight-serving s ok .serves) (interference-most Through) in
-          let lefts = time-most mostServed (v s Left) CL (sSL s) (cycle .most) (lefts-serving s ok .serves) in
+          let straight = held-most (interference s Through CL) straight-passes (interference-most Through) in
           let first = part-most (vST s) (λ some. straight) in
-          let within : time (v s Left) CL (sSL s) ≤ mostReference = omega (arith, lefts) in
+          let within : time (v s Left) CL (sSL s) ≤ mostReference = omega (arith, passes-most lefts-pass) in
           let second = part-most (v s Left) (λ some. within) in
           omega (arith, reference-most Through, first, second)
 

@@ -41,6 +41,13 @@ mostFlow = mostOf IdealFlow * mostOf Lanes * flowUnit
 abbrev pub mostServed : ℕ
 mostServed = mostVolume * flowUnit / leastLaneFlow + 1
 
+-- a volume that can be timed: small enough, and its flow serves it
+pub record Passes (v CL flow : ℕ) : Type 0 where
+  pub counted : v ≤ mostVolume
+  pub cycle : CL ≤ mostOf Cycle
+  pub most : flow ≤ mostFlow
+  pub serves : flowUnit * v ≤ mostServed * flow
+
 -- 10, 11: "G = 24,000 − ⌊..⌋"
 abbrev pub mostHeld : ℕ
 mostHeld = 24_000

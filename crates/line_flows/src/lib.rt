@@ -1,21 +1,27 @@
 // Lines 1–9 of an approach: the volumes of its groups, and the flows that serve them.
 ghost use mathlib.Core.Path.{_≡_};
 ghost use mathlib.Core.Bool.{cond};
-ghost use Prim.Native.Nat.{_*_, _+_, _≤_};
-ghost use Rattle.kinds.specs.declared.Kind.the-variants.{Lanes, Volume, IdealFlow};
+ghost use Prim.Native.Nat.{_≤_};
+ghost use Rattle.kinds.specs.declared.Kind.the-variants.{Lanes as LaneKind, IdealFlow};
 ghost use Rattle.kinds.specs.declared.Group.the-variants.{Left, Through};
 ghost use Rattle.kinds.specs.Kinds.{mostOf};
 ghost use Rattle.procedure.specs.Lines.{turningT, turningST, flowOf, flow, sST, sSL};
 ghost use Rattle.procedure.specs.Ranges.{Fair};
-ghost use Rattle.line_stages.specs.Blocks.{VolumesOf, FlowsOf};
+ghost use Rattle.line_bounds.specs.Bounds.{whole, mostVolume};
+ghost use Rattle.line_stages.specs.Stages.{volumesOf, flowsOf};
 use kinds::Group;
+use kinds::Lanes;
 use line_stages::Flows;
 use line_stages::Volumes;
 use procedure::Approach;
+use units::Flow;
 use units::Vph;
 
 // What is left of a flow where nothing turns, in ten-thousandths.
 const WHOLE: u32 = 10_000;
+
+// What the product of a flow is divided by: factors in thousandths and ten-thousandths, in the flows' unit.
+const PRODUCT: u64 = 10_000_000 / units::FLOW_UNIT;
 
 // Where all turn left.
 const LEFT: u32 = 9_500;
@@ -24,7 +30,7 @@ const LEFT: u32 = 9_500;
 const RIGHT: u32 = 8_500;
 
 fn choose(first: bool, a: Vph, b: Vph) -> Vph
-    ensures { λ r. ⌜ (r .0 ≡ cond first (a .0) (b .0)) × (r .0 ≤ a .0 + b .0) ⌝ }
+    ensures { λ r. ⌜ r .0 ≡ cond first (a .0) (b .0) ⌝ }
 {
     if first { a } else { b }
 }
@@ -32,7 +38,7 @@ fn choose(first: bool, a: Vph, b: Vph) -> Vph
 // Lines 1–3: without a lane of its own a right turn counts as through, and so does a left turn from a shared lane.
 pub fn volumes_of(s: Approach) -> Volumes
     requires { ⌜ Fair s ⌝ }
-    ensures { λ r. ⌜ VolumesOf s r ⌝ }
+    ensures { λ r. ⌜ r ≡ volumesOf s ⌝ }
 {
     let shared = s.shared.0 == 1;
     let laneless = s.right.lanes.0 == 0;
@@ -51,8 +57,8 @@ pub fn volumes_of(s: Approach) -> Volumes
 
 // What the right turns alone leave of a flow, for line 8.
 fn straight_turning_of(straight: Vph, right: Vph) -> u32
-    requires { ⌜ (straight .0 ≤ 3 * mostOf Volume) × (right .0 ≤ straight .0) ⌝ }
-    ensures { λ r. ⌜ (r ≡ turningST (straight .0) (right .0)) × (r ≤ 10_000) ⌝ }
+    requires { ⌜ (straight .0 ≤ mostVolume) × (right .0 ≤ straight .0) ⌝ }
+    ensures { λ r. ⌜ r ≡ turningST (straight .0) (right .0) ⌝ }
 {
     if right.0 == 0 {
         return WHOLE;
@@ -62,8 +68,8 @@ fn straight_turning_of(straight: Vph, right: Vph) -> u32
 
 // Line 4: what the turns among the through leave of its flow; without left turns as line 8 has it.
 fn turning_of(through: Vph, right: Vph, left: Vph) -> u32
-    requires { ⌜ (through .0 ≤ 3 * mostOf Volume) × (right .0 ≤ through .0) × (left .0 ≤ through .0) ⌝ }
-    ensures { λ r. ⌜ (r ≡ turningT (through .0) (right .0) (left .0)) × (r ≤ 10_000) ⌝ }
+    requires { ⌜ (through .0 ≤ mostVolume) × (right .0 ≤ through .0) × (left .0 ≤ through .0) ⌝ }
+    ensures { λ r. ⌜ r ≡ turningT (through .0) (right .0) (left .0) ⌝ }
 {
     if left.0 == 0 {
         return straight_turning_of(through, right);
@@ -75,54 +81,54 @@ fn turning_of(through: Vph, right: Vph, left: Vph) -> u32
 }
 
 // The flow of a group's lanes, down; without a lane there is none.
-fn flow_of(group: Group, ideal: Vph, lanes: u32, factor: u32) -> Vph
-    requires { ⌜ (ideal .0 ≤ mostOf IdealFlow) × (lanes ≤ mostOf Lanes) × (factor ≤ 10_000) ⌝ }
-    ensures { λ r. ⌜ r .0 ≡ flowOf group (ideal .0) lanes factor ⌝ }
+fn flow_of(group: Group, ideal: Vph, lanes: Lanes, factor: u32) -> Flow
+    requires { ⌜ (ideal .0 ≤ mostOf IdealFlow) × (lanes .0 ≤ mostOf LaneKind) × (factor ≤ whole) ⌝ }
+    ensures { λ r. ⌜ r .0 ≡ flowOf group (ideal .0) (lanes .0) factor ⌝ }
 {
-    if lanes == 0 {
-        return Vph(0);
+    if lanes.0 == 0 {
+        return Flow(0);
     }
-    let share = line_factors::lane_factor(group, lanes) as u64;
-    let scaled = ideal.0 as u64 * lanes as u64 * share * factor as u64;
-    Vph((scaled / 10_000_000) as u32)
+    let share = line_factors::lane_factor(group, lanes.0) as u64;
+    let scaled = ideal.0 as u64 * lanes.0 as u64 * share * factor as u64;
+    Flow((scaled / PRODUCT) as u32)
 }
 
 // Line 9: line 5, but the left of a shared lane has that lane.
-fn lefts_of(s: Approach, left: Vph) -> Vph
+fn lefts_of(s: Approach, left: Flow) -> Flow
     requires { ⌜ Fair s × (left .0 ≡ flow s Left) ⌝ }
     ensures { λ r. ⌜ r .0 ≡ sSL s ⌝ }
 {
     if s.shared.0 == 1 {
-        return flow_of(Group::Left, s.left.ideal.0, 1, LEFT);
+        return flow_of(Group::Left, s.left.ideal.0, Lanes(1), LEFT);
     }
     left
 }
 
 // Line 8: line 6, but without the folded left turns.
-fn straight_of(s: Approach, v: Volumes, through: Vph) -> Vph
-    requires { ⌜ Fair s × VolumesOf s v × (through .0 ≡ flow s Through) ⌝ }
+fn straight_of(s: Approach, v: Volumes, through: Flow) -> Flow
+    requires { ⌜ Fair s × (v ≡ volumesOf s) × (through .0 ≡ flow s Through) ⌝ }
     ensures { λ r. ⌜ r .0 ≡ sST s ⌝ }
 {
     if v.foldedleft.0 == 0 {
         return through;
     }
     let rights = straight_turning_of(v.straight, v.foldedright);
-    flow_of(Group::Through, s.through.ideal.0, s.through.lanes.0, rights)
+    flow_of(Group::Through, s.through.ideal.0, s.through.lanes, rights)
 }
 
 // Lines 4–9.
 pub fn flows_of(s: Approach, v: Volumes) -> Flows
-    requires { ⌜ Fair s × VolumesOf s v ⌝ }
-    ensures { λ r. ⌜ FlowsOf s r ⌝ }
+    requires { ⌜ Fair s × (v ≡ volumesOf s) ⌝ }
+    ensures { λ r. ⌜ r ≡ flowsOf s ⌝ }
 {
     let turns = turning_of(v.through, v.foldedright, v.foldedleft);
-    let left = flow_of(Group::Left, s.left.ideal.0, s.left.lanes.0, LEFT);
-    let through = flow_of(Group::Through, s.through.ideal.0, s.through.lanes.0, turns);
+    let left = flow_of(Group::Left, s.left.ideal.0, s.left.lanes, LEFT);
+    let through = flow_of(Group::Through, s.through.ideal.0, s.through.lanes, turns);
     Flows {
         turning: turns,
         left,
         through,
-        right: flow_of(Group::Right, s.right.ideal.0, s.right.lanes.0, RIGHT),
+        right: flow_of(Group::Right, s.right.ideal.0, s.right.lanes, RIGHT),
         straight: straight_of(s, v, through),
         lefts: lefts_of(s, left),
     }

@@ -1,18 +1,40 @@
-// Times from volumes and flows, and the two ways in which a time is adjusted.
+// Formulas that several lines share: a time from a volume and its flow, and the two ways in which a time is adjusted.
 ghost use mathlib.Core.Path.{_≡_};
 ghost use Prim.Native.Nat.{_*_, _+_, _≤_, max};
-ghost use Rattle.kinds.specs.declared.Kind.the-variants.{Volume, LostTime, MinimumGreen, PedestrianTime, Cycle};
+ghost use Rattle.units.specs.Unit.{flowUnit};
+ghost use Rattle.kinds.specs.declared.Group.the-variants.{Through};
+ghost use Rattle.kinds.specs.declared.Kind.the-variants.{LostTime, MinimumGreen, Cycle as CycleKind};
 ghost use Rattle.kinds.specs.Kinds.{mostOf};
-ghost use Rattle.procedure.specs.Lines.{time, adjustedOf, weightedOf};
+ghost use Rattle.procedure.specs.Approach.{lost, green, crossing};
+ghost use Rattle.procedure.specs.Lines.{time, part, adjustedOf, weightedOf};
+ghost use Rattle.procedure.specs.Ranges.{Fair};
+ghost use Rattle.line_bounds.specs.Bounds.{whole, mostVolume, mostHeld, mostMixed, mostMixedServed, mostReference, mostOption, Passes};
+use kinds::Cycle;
+use procedure::Approach;
+use units::Flow;
 use units::Ms;
 use units::Vph;
 
-// 1000·v·CL/flow, up. The flow serves at least a 7,500th of the volume.
-pub fn time_for(volume: Vph, cycle: u32, flow: Vph) -> Ms
-    requires { ⌜ (volume .0 ≤ 3 * mostOf Volume) × (cycle ≤ mostOf Cycle) × (volume .0 ≤ 7_500 * flow .0) × (flow .0 ≤ 4_000_000_000) ⌝ }
-    ensures { λ r. ⌜ (r .0 ≡ time (volume .0) cycle (flow .0)) × (r .0 ≤ 1_800_000_000) ⌝ }
+// Milliseconds of a second, in the flows' unit.
+const THOUSAND: u64 = 1000 * units::FLOW_UNIT;
+
+// 1000·v·CL/flow, up, of a flow that carries at least a small part of the volume.
+pub fn time_for(volume: Vph, cycle: Cycle, flow: Flow) -> Ms
+    requires { ⌜ (volume .0 ≤ mostVolume) × (cycle .0 ≤ mostOf CycleKind) × (flowUnit * volume .0 ≤ mostMixedServed * flow .0) × (flow .0 ≤ mostMixed) ⌝ }
+    ensures { λ r. ⌜ r .0 ≡ time (volume .0) (cycle .0) (flow .0) ⌝ }
 {
-    Ms(units::divide_up(1000 * (volume.0 as u64) * (cycle as u64), flow.0 as u64) as u32)
+    Ms(units::divide_up(THOUSAND * (volume.0 as u64) * (cycle.0 as u64), flow.0 as u64) as u32)
+}
+
+// The time of a part of an approach, with what holds it up; a part without volume takes none.
+pub fn part_time(volume: Vph, cycle: Cycle, flow: Flow, held: Ms) -> Ms
+    requires { ⌜ Passes (volume .0) (cycle .0) (flow .0) × (held .0 ≤ mostHeld) ⌝ }
+    ensures { λ r. ⌜ r .0 ≡ part (volume .0) (time (volume .0) (cycle .0) (flow .0) + held .0) ⌝ }
+{
+    if volume.0 == 0 {
+        return Ms(0);
+    }
+    Ms(time_for(volume, cycle, flow).0 + held.0)
 }
 
 // The larger of two times.
@@ -24,19 +46,19 @@ pub fn larger(a: Ms, b: Ms) -> Ms
 
 // Lost time, and the larger of the minimum and the reference time.
 pub fn adjust(lost: Ms, minimum: Ms, reference: Ms) -> Ms
-    requires { ⌜ (lost .0 ≤ mostOf LostTime) × (minimum .0 ≤ mostOf MinimumGreen) × (reference .0 ≤ 1_850_000_000) ⌝ }
-    ensures { λ r. ⌜ (r .0 ≡ adjustedOf (lost .0) (minimum .0) (reference .0)) × (r .0 ≤ reference .0 + 80_000) ⌝ }
+    requires { ⌜ (lost .0 ≤ mostOf LostTime) × (minimum .0 ≤ mostOf MinimumGreen) × (reference .0 ≤ mostReference) ⌝ }
+    ensures { λ r. ⌜ r .0 ≡ adjustedOf (lost .0) (minimum .0) (reference .0) ⌝ }
 {
     Ms(lost.0 + larger(minimum, reference).0)
 }
 
-// The same with the time that walkers need, weighted by how often they come.
-pub fn weigh(lost: Ms, minimum: Ms, crossing: Ms, frequency: u32, reference: Ms) -> Ms
-    requires { ⌜ (lost .0 ≤ mostOf LostTime) × (minimum .0 ≤ mostOf MinimumGreen) × (crossing .0 ≤ mostOf PedestrianTime) × (frequency ≤ 10_000) × (reference .0 ≤ 1_850_000_000) ⌝ }
-    ensures { λ r. ⌜ (r .0 ≡ weightedOf (lost .0) (minimum .0) (crossing .0) frequency (reference .0)) × (r .0 ≤ reference .0 + 80_000) ⌝ }
+// The same of an approach's through, with the time that walkers need, weighted by how often they come.
+pub fn weigh(s: Approach, frequency: u32, reference: Ms) -> Ms
+    requires { ⌜ Fair s × (frequency ≤ whole) × (reference .0 ≤ mostOption) ⌝ }
+    ensures { λ r. ⌜ r .0 ≡ weightedOf (lost s Through) (green s Through) (crossing s) frequency (reference .0) ⌝ }
 {
-    let a = larger(minimum, reference);
-    let b = larger(a, crossing);
+    let a = larger(s.through.green.0, reference);
+    let b = larger(a, s.crossing.0);
     let walking = units::divide_up((b.0 - a.0) as u64 * frequency as u64, 10_000);
-    Ms(lost.0 + a.0 + walking as u32)
+    Ms(s.through.lost.0.0 + a.0 + walking as u32)
 }

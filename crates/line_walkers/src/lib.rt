@@ -4,11 +4,15 @@ ghost use Prim.Native.Nat.{_*_, _≤_};
 ghost use lib.Dec.{eqb};
 ghost use Rattle.units.specs.Rounding.{up};
 ghost use Rattle.kinds.specs.declared.Group.the-variants.{Through, Right};
-ghost use Rattle.kinds.specs.declared.Kind.the-variants.{Volume, Pedestrians};
-ghost use Rattle.kinds.specs.Kinds.{Within, mostOf};
+ghost use Rattle.kinds.specs.declared.Kind.the-variants.{Pedestrians as Walkers};
+ghost use Rattle.kinds.specs.Kinds.{Within};
 ghost use Rattle.procedure.specs.Ranges.{Fair, FairCycle};
 ghost use Rattle.procedure.specs.Lines.{G, interference, frequency};
-ghost use Rattle.line_stages.specs.Blocks.{VolumesOf, WalkingOf};
+ghost use Rattle.line_bounds.specs.Bounds.{mostVolume, mostHeld};
+ghost use Rattle.line_stages.specs.Stages.{volumesOf, walkingOf};
+use kinds::Cycle;
+use kinds::Pedestrians;
+use kinds::PushButton;
 use line_stages::Volumes;
 use line_stages::Walking;
 use procedure::Approach;
@@ -16,41 +20,41 @@ use units::Ms;
 use units::Vph;
 
 // G, the part of a cycle that walkers take; where nobody walks no decay number is asked for.
-fn walkers_part(p: u32, cycle: u32) -> Ms
-    requires { ⌜ (Within Pedestrians p) × (FairCycle cycle) ⌝ }
-    ensures { λ r. ⌜ (r .0 ≡ G p cycle) × (r .0 ≤ 24_000) ⌝ }
+fn walkers_part(p: Pedestrians, cycle: Cycle) -> Ms
+    requires { ⌜ (Within Walkers (p .0)) × (FairCycle (cycle .0)) ⌝ }
+    ensures { λ r. ⌜ r .0 ≡ G (p .0) (cycle .0) ⌝ }
 {
-    if p == 0 {
+    if p.0 == 0 {
         return Ms(0);
     }
-    let waiting = line_decay::decay_number(p as u64 * (cycle - 8) as u64);
-    let coming = line_decay::decay_number(4 * p as u64);
+    let waiting = line_decay::decay_number(p.0 as u64 * (cycle.0 - 8) as u64);
+    let coming = line_decay::decay_number(4 * p.0 as u64);
     Ms(24_000 - ((8 * waiting + 16 * coming) / 1_000_000) as u32)
 }
 
 // The share of some vehicles in what the whole volume would bear, up.
 fn share(part: Ms, some: Vph, volume: Vph) -> Ms
-    requires { ⌜ (part .0 ≤ 24_000) × (some .0 ≤ volume .0) × (volume .0 ≤ 3 * mostOf Volume) ⌝ }
-    ensures { λ r. ⌜ (r .0 ≡ up (part .0 * some .0) (volume .0)) × (r .0 ≤ 24_000) ⌝ }
+    requires { ⌜ (part .0 ≤ mostHeld) × (some .0 ≤ volume .0) × (volume .0 ≤ mostVolume) ⌝ }
+    ensures { λ r. ⌜ r .0 ≡ up (part .0 * some .0) (volume .0) ⌝ }
 {
     Ms(units::divide_up(part.0 as u64 * some.0 as u64, volume.0 as u64) as u32)
 }
 
 // Line 10: all of it falls to the right lanes, where there are any.
-fn right_interference(s: Approach, cycle: u32) -> Ms
-    requires { ⌜ (Fair s) × (FairCycle cycle) ⌝ }
-    ensures { λ r. ⌜ (r .0 ≡ interference s Right cycle) × (r .0 ≤ 24_000) ⌝ }
+fn right_interference(s: Approach, cycle: Cycle) -> Ms
+    requires { ⌜ Fair s × FairCycle (cycle .0) ⌝ }
+    ensures { λ r. ⌜ r .0 ≡ interference s Right (cycle .0) ⌝ }
 {
     if s.right.lanes.0 == 0 {
         return Ms(0);
     }
-    walkers_part(s.walkers.0, cycle)
+    walkers_part(s.walkers, cycle)
 }
 
 // Line 11: without right lanes the through lanes bear it, by the share of the rights in them.
-fn through_interference(s: Approach, v: Volumes, cycle: u32) -> Ms
-    requires { ⌜ (Fair s) × (VolumesOf s v) × (FairCycle cycle) ⌝ }
-    ensures { λ r. ⌜ (r .0 ≡ interference s Through cycle) × (r .0 ≤ 24_000) ⌝ }
+fn through_interference(s: Approach, v: Volumes, cycle: Cycle) -> Ms
+    requires { ⌜ Fair s × (v ≡ volumesOf s) × FairCycle (cycle .0) ⌝ }
+    ensures { λ r. ⌜ r .0 ≡ interference s Through (cycle .0) ⌝ }
 {
     if 0 < s.right.lanes.0 {
         return Ms(0);
@@ -59,34 +63,34 @@ fn through_interference(s: Approach, v: Volumes, cycle: u32) -> Ms
         return Ms(0);
     }
     share(
-        walkers_part(s.walkers.0, cycle),
+        walkers_part(s.walkers, cycle),
         s.right.volume.0,
         v.through,
     )
 }
 
 // Line 12: how often there are walkers in a cycle, in ten-thousandths.
-fn walkers_frequency(p: u32, button: u32, cycle: u32) -> u32
-    requires { ⌜ (Within Pedestrians p) × (FairCycle cycle) ⌝ }
-    ensures { λ r. ⌜ (r ≡ frequency p (eqb button 1) cycle) × (r ≤ 10_000) ⌝ }
+fn walkers_frequency(p: Pedestrians, button: PushButton, cycle: Cycle) -> u32
+    requires { ⌜ (Within Walkers (p .0)) × (FairCycle (cycle .0)) ⌝ }
+    ensures { λ r. ⌜ r ≡ frequency (p .0) (eqb (button .0) 1) (cycle .0) ⌝ }
 {
-    if p == 0 {
+    if p.0 == 0 {
         return 0;
     }
-    if button != 1 {
+    if button.0 != 1 {
         return 10_000;
     }
-    10_000 - (line_decay::decay_number(2 * p as u64 * cycle as u64) / 100_000) as u32
+    10_000 - (line_decay::decay_number(2 * p.0 as u64 * cycle.0 as u64) / 100_000) as u32
 }
 
 // Lines 10–12.
-pub fn walking_of(s: Approach, v: Volumes, cycle: u32) -> Walking
-    requires { ⌜ (Fair s) × (VolumesOf s v) × (FairCycle cycle) ⌝ }
-    ensures { λ r. ⌜ WalkingOf s cycle r ⌝ }
+pub fn walking_of(s: Approach, v: Volumes, cycle: Cycle) -> Walking
+    requires { ⌜ Fair s × (v ≡ volumesOf s) × FairCycle (cycle .0) ⌝ }
+    ensures { λ r. ⌜ r ≡ walkingOf s (cycle .0) ⌝ }
 {
     Walking {
         right: right_interference(s, cycle),
         through: through_interference(s, v, cycle),
-        frequency: walkers_frequency(s.walkers.0, s.button.0, cycle),
+        frequency: walkers_frequency(s.walkers, s.button, cycle),
     }
 }

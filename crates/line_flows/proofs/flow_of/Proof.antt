@@ -1,7 +1,7 @@
 use native.Mathlib.Omega.{arith}
 use borrow.Author.Tests.{eq-eqb, ne-eqb}
 use Rattle.procedure.specs.Lines.{flowOf}
-use Rattle.line_flows.proofs.Laws.{FlowRoom, flow-room}
+use Rattle.line_bounds.proofs.Flows.{FlowRoom, flow-room}
 use borrow.Author.Needs.{needs}
 use Rattle.line_flows.proofs.flow_of.Statement.{statement}
 use Rattle.line_flows.proofs.flow_of.Tie as tie
@@ -9,9 +9,9 @@ use Rattle.line_flows.proofs.flow_of.Tie as tie
 -- the products on the way to the flow
 room :
     (c : tie.After-lane-factor)
-    → FlowRoom (c .before .before .args .ideal .0) (c .before .before .args .lanes) (c .lane-factor .result) (c .before .before .args .factor)
+    → FlowRoom (c .before .before .before .args .ideal .0) (c .before .before .before .args .lanes .0) (c .lane-factor .result) (c .before .before .before .args .factor)
 room c =
-    let p = c .before .before .pre in
+    let p = c .before .before .before .pre in
     flow-room _ _ _ _ (p .0) (p .1) (c .lane-factor .ensures .1) (p .2)
 
 returns : tie.Need-returns
@@ -19,23 +19,23 @@ unfolding flowOf
 returns c = rw (eq-eqb _ _ (c .if1 .taken))
 
 mul-scaled : tie.Need-mul-scaled
-mul-scaled c = omega (arith, room (c .before))
+mul-scaled c = omega (arith, room (c .before .before))
 
 mul-scaled-2 : tie.Need-mul-scaled-2
-mul-scaled-2 c = omega (arith, room (c .before))
+mul-scaled-2 c = omega (arith, room (c .before .before))
 
 mul-scaled-3 : tie.Need-mul-scaled-3
-mul-scaled-3 c = omega (arith, room (c .before))
+mul-scaled-3 c = omega (arith, room (c .before .before))
 
 cast-t8 : tie.Need-cast-t8
-cast-t8 c = omega (arith, room (c .before))
+cast-t8 c = omega (arith, room (c .before .before))
 
 returns-2 : tie.Need-returns-2
 unfolding flowOf
-returns-2 c = rw (ne-eqb _ _ (c .before .before .if1 .left), ← c .before .lane-factor .ensures .0)
+returns-2 c = rw (ne-eqb _ _ (c .before .before .before .if1 .left), ← c .before .before .lane-factor .ensures .0)
 
 pub flow-of-spec : {M : Type 1} → statement M
 flow-of-spec =
     tie.close
-    (tie.spec returns (search needs) (search needs) (search needs) mul-scaled mul-scaled-2 mul-scaled-3 cast-t8
-    returns-2)
+    (tie.spec returns (search needs) (search needs) (search needs) (search needs) mul-scaled mul-scaled-2 mul-scaled-3
+    cast-t8 returns-2)

@@ -2,26 +2,31 @@ use Rattle.procedure.specs.Lines.{fT, flow}
 use Rattle.kinds.specs.declared.Group.the-variants.{Left, Through, Right}
 use lib.Dec.{lit≤}
 use mathlib.Core.Path.{_≡_}
-use Rattle.line_flows.proofs.Laws.{flow-ready, flows-bounded}
+use Rattle.line_bounds.proofs.Flows.{volumes, flow-ready, factor-between}
 use borrow.Author.Needs.{needs}
 use Rattle.line_flows.proofs.flows_of.Statement.{statement}
 use Rattle.line_flows.proofs.flows_of.Tie as tie
 
 turning : (d : tie.After-turning-of) → d .turning-of .result ≡ fT (d .before .args .s)
 unfolding fT
-turning d =
-    let w = d .before .pre .1 in
-    rw (d .turning-of .ensures .0, w .through, w .foldedright, w .foldedleft)
+turning d = rw (d .before .pre .1) at (d .turning-of .ensures)
 
 through : (d : tie.After-flow-of2) → d .flow-of2 .result .0 ≡ flow (d .before .before .before .args .s) Through
 unfolding flow
 through d = rw (d .flow-of2 .ensures, turning (d .before .before))
 
+turning-of-requires : tie.Need-turning-of-requires
+turning-of-requires c κs =
+    let v = volumes (c .args .s) (c .pre .0) in
+    rw (c .pre .1) (search needs)
+
 flow-of-requires : tie.Need-flow-of-requires
 flow-of-requires c κs = flow-ready _ (c .before .pre .0) Left _ (lit≤ tt)
 
 flow-of-requires-2 : tie.Need-flow-of-requires-2
-flow-of-requires-2 c κs = flow-ready _ (c .before .before .pre .0) Through _ (c .before .turning-of .ensures .1)
+flow-of-requires-2 c κs =
+    let s = c .before .before in
+    flow-ready _ (s .pre .0) Through _ (rw (turning (c .before)) (factor-between (s .args .s) (s .pre .0) Through .most))
 
 flow-of-requires-3 : tie.Need-flow-of-requires-3
 flow-of-requires-3 c κs = flow-ready _ (c .before .before .before .pre .0) Right _ (lit≤ tt)
@@ -39,12 +44,10 @@ returns : tie.Need-returns
 unfolding flow
 returns c =
     let m = c .before .before .before in
-    let e = m .before .before in
-    let s = e .before in
-    flows-bounded (s .args .s) (s .pre .0) _ (turning e) (m .before .flow-of .ensures) (through m) (c .before .before .flow-of3 .ensures) (c .before .straight-of .ensures) (c .lefts-of .ensures)
+    rw (turning (m .before .before), m .before .flow-of .ensures, through m, c .before .before .flow-of3 .ensures, c .before .straight-of .ensures, c .lefts-of .ensures)
 
 pub flows-of-spec : {M : Type 1} → statement M
 flows-of-spec =
     tie.close
-    (tie.spec (search needs) flow-of-requires flow-of-requires-2 flow-of-requires-3 straight-of-requires
+    (tie.spec turning-of-requires flow-of-requires flow-of-requires-2 flow-of-requires-3 straight-of-requires
     lefts-of-requires returns)

@@ -1,5 +1,5 @@
 use mathlib.Core.Path.{_≡_}
-use Rattle.line_flows.proofs.Laws.{straight-none, straight-quotient}
+use Rattle.line_bounds.proofs.Flows.{straight-none}
 use Rattle.procedure.specs.Lines.{turningST}
 use borrow.Author.Tests.{ne-eqb}
 use native.Mathlib.Omega.{arith}
@@ -8,14 +8,14 @@ use Rattle.line_flows.proofs.straight_turning_of.Statement.{statement}
 use Rattle.line_flows.proofs.straight_turning_of.Tie as tie
 
 returns : tie.Need-returns
-returns c = (rw (c .if1 .taken, straight-none), search needs)
+returns c = rw (c .if1 .taken, straight-none)
 
 returns-2 : tie.Need-returns-2
 unfolding turningST
 returns-2 c =
     let s = c .before .before .before .before .before in
     let z : s .args .straight .0 ≡ 0 → ⊥ = λ none. omega (arith, c .before .before .before .if1 .left) in
-    (rw (ne-eqb _ _ z), straight-quotient (s .args .straight .0) (s .args .right .0) z (s .pre .1) .most)
+    rw (ne-eqb _ _ z)
 
 pub straight-turning-of-spec : {M : Type 1} → statement M
 straight-turning-of-spec =

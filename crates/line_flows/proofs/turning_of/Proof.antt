@@ -1,4 +1,4 @@
-use Rattle.line_flows.proofs.Laws.{turning-product, turning-quotient, turning-alike}
+use Rattle.line_bounds.proofs.Flows.{turning-product, turning-quotient, turning-alike}
 use Rattle.procedure.specs.Lines.{turningT}
 use borrow.Author.Tests.{ne-eqb}
 use native.Mathlib.Omega.{arith}
@@ -9,9 +9,7 @@ use Rattle.line_flows.proofs.turning_of.Statement.{statement}
 use Rattle.line_flows.proofs.turning_of.Tie as tie
 
 returns : tie.Need-returns
-returns c =
-    let alone = c .straight-turning-of .ensures in
-    (rw (c .before .if1 .taken, turning-alike) (alone .0), alone .1)
+returns c = rw (c .before .if1 .taken, turning-alike) (c .straight-turning-of .ensures)
 
 mul-result : tie.Need-mul-result
 mul-result c =
@@ -38,7 +36,7 @@ unfolding turningT
 returns-2 c =
     let s = c .before .before .before .before .before in
     let z : s .args .through .0 ≡ 0 → ⊥ = λ none. omega (arith, c .before .before .before .if1 .left) in
-    (rw (ne-eqb _ _ z), turning-quotient (s .args .through .0) (s .args .right .0) (s .args .left .0) z (s .pre .1) (s .pre .2) .most)
+    rw (ne-eqb _ _ z)
 
 pub turning-of-spec : {M : Type 1} → statement M
 turning-of-spec =

@@ -1,5 +1,4 @@
 use Prim.Native.Nat.{_+_, _*_}
-use Rattle.line_left_lane.proofs.Laws.{shared-out}
 use Rattle.procedure.specs.Lines.{heaviest}
 use native.Mathlib.Omega.{arith}
 use borrow.Author.Needs.{needs}
@@ -8,15 +7,11 @@ use Rattle.line_left_lane.proofs.heaviest_lane.Tie as tie
 
 returns : tie.Need-returns
 unfolding heaviest
-returns c = (omega (arith, c .before .before .share-out .ensures), omega arith, omega arith)
+returns c = omega (arith, c .before .before .share-out .ensures)
 
 returns-2 : tie.Need-returns-2
 unfolding heaviest
-returns-2 c =
-    let d = c .before .before .before in
-    let s = d .before .before .before in
-    let all = 4 * s .args .lefts .0 + s .args .all .0 in
-    (omega (arith, d .share-out .ensures), omega arith, omega (arith, d .share-out .ensures, shared-out all (s .args .lanes) (s .pre .2)))
+returns-2 c = omega (arith, c .before .before .before .share-out .ensures)
 
 pub heaviest-lane-spec : {M : Type 1} → statement M
 heaviest-lane-spec =

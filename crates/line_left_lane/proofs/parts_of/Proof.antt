@@ -1,6 +1,5 @@
-use Rattle.line_left_lane.proofs.Laws.{PartsRoom, parts-room, parts-of-lefts}
+use Rattle.line_bounds.proofs.LeftLane.{PartsRoom, parts-room, parts-of-lefts}
 use mathlib.Core.Path.{refl}
-use native.Mathlib.Nat.{div-le-self}
 use native.Mathlib.Omega.{arith}
 use borrow.Author.Needs.{needs}
 use Rattle.line_left_lane.proofs.parts_of.Statement.{statement}
@@ -10,7 +9,7 @@ room : (s : tie.Start) → PartsRoom (s .args .share) (s .args .equivalent)
 room s = parts-room (s .args .share) (s .args .equivalent) (s .pre .0) (s .pre .1) (s .pre .2)
 
 returns : tie.Need-returns
-returns c = (rw (c .if1 .taken, parts-of-lefts), div-le-self 100_000_000 (c .before .args .equivalent))
+returns c = rw (c .if1 .taken, parts-of-lefts)
 
 mul-under : tie.Need-mul-under
 mul-under c = omega (arith, room (c .before))
@@ -22,7 +21,7 @@ cast-result : tie.Need-cast-result
 cast-result c = omega (arith, room (c .before))
 
 returns-2 : tie.Need-returns-2
-returns-2 c = (refl, room (c .before) .most)
+returns-2 c = refl
 
 pub parts-of-spec : {M : Type 1} → statement M
 parts-of-spec =

@@ -5,7 +5,7 @@ use Rattle.line_walkers.proofs.walking_of.Tie as tie
 
 returns : tie.Need-returns
 unfolding F
-returns c = search needs
+returns c = rw (c .walkers-frequency .ensures, c .before .through-interference .ensures, c .before .before .right-interference .ensures)
 
 pub walking-of-spec : {M : Type 1} → statement M
 walking-of-spec = tie.close (tie.spec (λ c. search needs) (λ c. search needs) (λ c. search needs) returns)
