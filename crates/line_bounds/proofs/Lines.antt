@@ -16,8 +16,7 @@ use Rattle.kinds.specs.Kinds.{mostOf}
 use Rattle.procedure.specs.declared.Approach.{Approach}
 use Rattle.procedure.specs.Ranges.{Fair, FairCycle}
 use Rattle.procedure.specs.Lines.{firstLines, laterLines, lines}
-use Rattle.procedure.specs.Pairs.{line}
-use Rattle.line_bounds.specs.Bounds.{whole, mostVolume, mostFlow, mostHeld, mostReference, mostAdjusted, mostEquivalent, mostMixed, mostPermitted, Timely}
+use Rattle.line_bounds.specs.Bounds.{whole, mostVolume, mostFlow, mostHeld, mostReference, mostAdjusted, mostEquivalent, mostMixed, Bounded}
 use Rattle.line_bounds.proofs.Flows.{volumes, factor-between, group-serving, straight-serving, lefts-serving}
 use Rattle.line_bounds.proofs.Times.{interference-most, F-most, reference-most, adjusted-most, line27-most, line28-most}
 use Rattle.line_bounds.proofs.LeftLane.{carried}
@@ -50,14 +49,6 @@ mostLines =
     ∷ BLANK ∷ BLANK ∷ BLANK ∷ BLANK
     ∷ mostReference ∷ mostAdjusted
     ∷ []
-
--- what the pairs and totals lean on: no time among the lines reaches BLANK
-pub record Bounded (x : List ℕ) : Type 0 where
-  pub line16 : line 16 x ≤ mostAdjusted
-  pub line17 : line 17 x ≤ mostAdjusted
-  pub line18 : line 18 x ≤ mostAdjusted
-  pub line26 : Timely mostPermitted (line 26 x)
-  pub line28 : line 28 x ≤ mostAdjusted
 
 module _ (s o : Approach) (CL : ℕ) (fair : Fair s) (cycle : FairCycle CL) where
   lines-most : Under mostLines (lines s o CL)

@@ -1,11 +1,13 @@
 -- How large the lines of an acceptable approach can be: each bound once, worked out from the kinds' limits and the bounds before it.
 use mathlib.Core.Path.{_≡_}
+use mathlib.Core.List.{List}
 use Prim.Native.Nat.{ℕ, _+_, _*_, _/_, _≤_, max}
 use Rattle.units.specs.Unit.{flowUnit}
 use Rattle.layout.specs.Entries.{groupCount}
 use Rattle.layout.specs.Sheet.{BLANK}
 use Rattle.kinds.specs.declared.Kind.the-variants.{Lanes, Volume, IdealFlow, LostTime, MinimumGreen, PedestrianTime, Cycle}
 use Rattle.kinds.specs.Kinds.{limitsOf, mostOf}
+use Rattle.procedure.specs.Pairs.{line}
 
 -- factors, shares and frequencies are ten-thousandths
 abbrev pub whole : ℕ
@@ -103,3 +105,23 @@ mostPermitted = mostOption + mostAdded
 -- a cell that may be BLANK is a time otherwise
 abbrev pub Timely : ℕ → ℕ → Type 0
 Timely most x = (x ≡ BLANK → ⊥) → x ≤ most
+
+-- what the pairs and totals lean on of an approach's lines
+pub record Bounded (x : List ℕ) : Type 0 where
+  pub line16 : line 16 x ≤ mostAdjusted
+  pub line17 : line 17 x ≤ mostAdjusted
+  pub line18 : line 18 x ≤ mostAdjusted
+  pub line26 : Timely mostPermitted (line 26 x)
+  pub line28 : line 28 x ≤ mostAdjusted
+
+-- a pair's totals that are picked: the split total is no larger, and two approaches' 16 and 17 add up to no more
+abbrev pub mostPicked : ℕ
+mostPicked = 2 * mostAdjusted
+
+-- a right total, and the two picked times added: a right turn with a through and a left, each picked
+abbrev pub mostRequired : ℕ
+mostRequired = 2 * mostPicked
+
+-- "required/CL up", in the shortest cycle
+abbrev pub mostIcu : ℕ
+mostIcu = mostRequired / limitsOf Cycle .least + 1

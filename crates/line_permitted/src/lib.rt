@@ -1,105 +1,62 @@
 // Lines 23–26: lefts that find their way through oncoming traffic.
 ghost use mathlib.Core.Path.{_≡_};
-ghost use mathlib.Core.Bool.{cond, _&&_};
+ghost use mathlib.Core.Bool.{cond};
 ghost use Prim.Native.Nat.{_+_, _*_, _≤_, _<_};
 ghost use lib.Dec.{eqb};
 ghost use Rattle.units.specs.Rounding.{up};
-ghost use Rattle.kinds.specs.declared.Kind.the-variants.{Volume, Cycle};
+ghost use Rattle.units.specs.Unit.{flowUnit};
+ghost use Rattle.layout.specs.Sheet.{BLANK};
 ghost use Rattle.kinds.specs.declared.Group.the-variants.{Through};
-ghost use Rattle.kinds.specs.Kinds.{mostOf};
 ghost use Rattle.procedure.specs.Approach.{lost, green, crossing};
 ghost use Rattle.procedure.specs.Ranges.{Fair, FairCycle};
-ghost use Rattle.procedure.specs.Lines.{BLANK, part, time, single, leftShare, allowedA, equivalent, flowA, optionAOf, optionA, sB, throughB, optionB, lesser, weightedOf};
-ghost use Rattle.line_stages.specs.Blocks.{VolumesOf, FlowsOf, WalkingOf, MeetingOf, LaneOf, Timely, PermittedOf};
+ghost use Rattle.procedure.specs.Lines.{part, time, allowedA, empty, equivalent, flowA, optionAOf, optionA, sB, throughB, optionB, lesser, weightedOf};
+ghost use Rattle.line_bounds.specs.Bounds.{whole, mostVolume, leastLaneFlow, mostHeld, mostMixed, mostMixedServed, mostOption, Passes, Timely};
+ghost use Rattle.line_stages.specs.Stages.{volumesOf, flowsOf, firstOf, meetingOf, leftLaneOf, permittedOf};
+use kinds::Cycle;
+use kinds::Lanes;
+use line_stages::First;
 use line_stages::Flows;
-use line_stages::Lane;
+use line_stages::LeftLane;
 use line_stages::Meeting;
 use line_stages::Permitted;
 use line_stages::Volumes;
-use line_stages::Walking;
 use procedure::Approach;
+use units::Flow;
 use units::Ms;
 use units::Vph;
 
-// What a cell holds where an option is not allowed.
-const NOT_ALLOWED: u32 = 4_294_967_295;
+// Where an option is not allowed.
+const NOT_ALLOWED: Ms = Ms(layout::BLANK);
 
-// Whether one shared lane, with lefts in it, is all that the approach has.
-fn is_single(o: Approach) -> bool
-    ensures { λ r. ⌜ r ≡ single o ⌝ }
-{
-    if o.left.lanes.0 != 0 {
-        return false;
-    }
-    if o.through.lanes.0 != 1 {
-        return false;
-    }
-    if o.right.lanes.0 != 0 {
-        return false;
-    }
-    if o.shared.0 != 1 {
-        return false;
-    }
-    0 < o.left.volume.0.0
-}
-
-// The share of lefts in the only lane of the oncoming approach.
-fn left_share(o: Approach, w: Volumes) -> u32
-    requires { ⌜ VolumesOf o w ⌝ }
-    ensures { λ r. ⌜ (r ≡ leftShare o) × (r ≤ 10_000) ⌝ }
-{
-    if is_single(o) {
-        return 10_000 * w.foldedleft.0 / w.through.0;
-    }
-    0
-}
-
-// Few lefts, or an oncoming approach whose own lefts make gaps.
-fn is_a_allowed(s: Approach, o: Approach) -> bool
-    ensures { λ r. ⌜ r ≡ allowedA s o ⌝ }
-{
-    if s.left.volume.0.0 < 60 {
-        return true;
-    }
-    is_single(o)
-}
-
-// What the oncoming approach, of volumes w, does to this one.
-pub fn meeting_of(s: Approach, o: Approach, w: Volumes) -> Meeting
-    requires { ⌜ VolumesOf o w ⌝ }
-    ensures { λ r. ⌜ MeetingOf s o r ⌝ }
-{
-    Meeting {
-        share: left_share(o, w),
-        alloweda: is_a_allowed(s, o),
-        allowedb: w.straight.0 <= 120,
-    }
-}
-
-// The T or the L value of line 23, of its heaviest lane and the flow of that lane. Where that lane is the slower one, as a rule, the group's own time is not needed.
-fn option_a_of(lane: Vph, mixed: Vph, volume: Vph, flow: Vph, interference: Ms, cycle: u32) -> Ms
-    requires { ⌜ (lane .0 ≤ 3 * mostOf Volume) × (lane .0 ≤ 7_500 * mixed .0) × (0 < volume .0 → 0 < mixed .0) × (mixed .0 ≤ 144_000_000) × (volume .0 ≤ 3 * mostOf Volume) × (volume .0 ≤ 43 * flow .0) × (flow .0 ≤ 14_400) × (interference .0 ≤ 24_000) × (cycle ≤ mostOf Cycle) ⌝ }
-    ensures { λ r. ⌜ r .0 ≡ part (volume .0) (optionAOf (lane .0) (mixed .0) (volume .0) (flow .0) (interference .0) cycle) ⌝ }
+// The T or the L value of line 23, of its heaviest lane and the flow of that lane. Where that lane is the slower one, as a
+// rule, the group's own time is not needed.
+fn option_a_of(lane: Vph, mixed: Flow, volume: Vph, flow: Flow, held: Ms, cycle: Cycle) -> Ms
+    requires { ⌜ (lane .0 ≤ mostVolume) × (flowUnit * lane .0 ≤ mostMixedServed * mixed .0) × (0 < volume .0 → 0 < mixed .0) × (mixed .0 ≤ mostMixed) ⌝ }
+    requires { ⌜ Passes (volume .0) (cycle .0) (flow .0) × (held .0 ≤ mostHeld) ⌝ }
+    ensures { λ r. ⌜ r .0 ≡ part (volume .0) (optionAOf (lane .0) (mixed .0) (volume .0) (flow .0) (held .0) (cycle .0)) ⌝ }
 {
     if volume.0 == 0 {
         return Ms(0);
     }
-    let delayed = Ms(line_formulas::time_for(lane, cycle, mixed).0 + interference.0);
+    let delayed = Ms(line_formulas::time_for(lane, cycle, mixed).0 + held.0);
     if volume.0 as u64 * mixed.0 as u64 <= lane.0 as u64 * flow.0 as u64 {
         return delayed;
     }
-    line_formulas::larger(delayed, line_formulas::time_for(volume, cycle, flow))
+    line_formulas::larger(
+        delayed,
+        line_formulas::time_for(volume, cycle, flow),
+    )
 }
 
 // The L value of line 23: every car of the lane turns left.
-fn left_option_a(volume: Vph, lanes: u32, flow: Vph, oncoming: u32, cycle: u32) -> Ms
-    requires { ⌜ (volume .0 ≤ mostOf Volume) × (0 < volume .0 → 0 < lanes) × (714 * lanes ≤ flow .0) × (volume .0 ≤ 43 * flow .0) × (flow .0 ≤ 14_400) × (oncoming ≤ 10_000) × (FairCycle cycle) ⌝ }
-    ensures { λ r. ⌜ r .0 ≡ part (volume .0) (optionAOf (up (volume .0) lanes) (flowA (flow .0) 10_000 (equivalent 10_000 oncoming cycle) lanes) (volume .0) (flow .0) 0 cycle) ⌝ }
+fn left_option_a(volume: Vph, lanes: Lanes, flow: Flow, oncoming: u32, cycle: Cycle) -> Ms
+    requires { ⌜ Passes (volume .0) (cycle .0) (flow .0) × (0 < volume .0 → 0 < lanes .0) × (leastLaneFlow * lanes .0 ≤ flow .0) × (oncoming ≤ whole) × FairCycle (cycle .0) ⌝ }
+    ensures { λ r. ⌜ r .0 ≡ part (volume .0) (optionAOf (up (volume .0) (lanes .0)) (flowA (flow .0) whole (equivalent whole oncoming (cycle .0)) (lanes .0)) (volume .0) (flow .0) 0 (cycle .0)) ⌝ }
 {
     if volume.0 == 0 {
         return Ms(0);
     }
-    let lane = Vph(line_left_lane::share_out(volume.0, lanes));
+    let lane = Vph(line_left_lane::share_out(volume.0, lanes.0));
     let mixed = line_left_lane::flow_a(
         flow,
         10_000,
@@ -110,62 +67,53 @@ fn left_option_a(volume: Vph, lanes: u32, flow: Vph, oncoming: u32, cycle: u32) 
 }
 
 // Line 23 of an approach that has volume, worked out only where it is allowed.
-fn option_a(
-    s: Approach,
-    o: Approach,
-    v: Volumes,
-    f: Flows,
-    w: Walking,
-    m: Meeting,
-    lane: Lane,
-    cycle: u32,
-) -> Ms
-    requires { ⌜ (Fair s) × (VolumesOf s v) × (FlowsOf s f) × (WalkingOf s cycle w) × (MeetingOf s o m) × (LaneOf s o cycle lane) × (FairCycle cycle) ⌝ }
-    ensures { λ r. ⌜ r .0 ≡ cond (m .alloweda) (optionA s o cycle) BLANK ⌝ }
+fn option_a(s: Approach, o: Approach, x: First, m: Meeting, lane: LeftLane, cycle: Cycle) -> Ms
+    requires { ⌜ Fair s × (x ≡ firstOf s (cycle .0)) × (m ≡ meetingOf s o) × (lane ≡ leftLaneOf s o (cycle .0)) × FairCycle (cycle .0) ⌝ }
+    ensures { λ r. ⌜ r .0 ≡ cond (allowedA s o) (optionA s o (cycle .0)) BLANK ⌝ }
 {
     if !m.alloweda {
-        return Ms(NOT_ALLOWED);
+        return NOT_ALLOWED;
     }
     let through = option_a_of(
         lane.heaviest,
         lane.flow,
-        v.through,
-        f.through,
-        w.through,
+        x.volumes.through,
+        x.flows.through,
+        x.walking.through,
         cycle,
     );
-    let left = left_option_a(v.left, s.left.lanes.0, f.left, m.share, cycle);
+    let left = left_option_a(x.volumes.left, s.left.lanes, x.flows.left, m.share, cycle);
     line_formulas::larger(through, left)
 }
 
 // Flow of the through lanes while a left waits in the shared one.
-fn flow_b(s: Approach, f: Flows) -> Vph
-    requires { ⌜ (Fair s) × (FlowsOf s f) ⌝ }
+fn flow_b(s: Approach, f: Flows) -> Flow
+    requires { ⌜ Fair s × (f ≡ flowsOf s) ⌝ }
     ensures { λ r. ⌜ r .0 ≡ sB s ⌝ }
 {
     if s.shared.0 != 1 {
         return f.through;
     }
     let lanes = s.through.lanes.0;
-    Vph(f.through.0 * (lanes - 1) / lanes)
+    Flow(f.through.0 * (lanes - 1) / lanes)
 }
 
 // The through half of line 24; the flow beside a waiting left is no larger than the flow without lefts.
-fn through_b(straight: Vph, flow: Vph, beside: Vph, interference: Ms, cycle: u32) -> Ms
-    requires { ⌜ (straight .0 ≤ 3 * mostOf Volume) × (straight .0 ≤ 43 * flow .0) × (flow .0 ≤ 14_400) × (beside .0 ≤ flow .0) × (interference .0 ≤ 24_000) × (cycle ≤ mostOf Cycle) ⌝ }
-    ensures { λ r. ⌜ r .0 ≡ part (straight .0) (throughB (straight .0) (flow .0) (beside .0) (interference .0) cycle) ⌝ }
+fn through_b(straight: Vph, flow: Flow, beside: Flow, held: Ms, cycle: Cycle) -> Ms
+    requires { ⌜ Passes (straight .0) (cycle .0) (flow .0) × (beside .0 ≤ flow .0) × (held .0 ≤ mostHeld) ⌝ }
+    ensures { λ r. ⌜ r .0 ≡ part (straight .0) (throughB (straight .0) (flow .0) (beside .0) (held .0) (cycle .0)) ⌝ }
 {
     if straight.0 == 0 {
         return Ms(0);
     }
     let clears = line_formulas::time_for(straight, cycle, flow);
-    Ms(8_000 + clears.0 - 8_000 * beside.0 / flow.0 + interference.0)
+    Ms(8_000 + clears.0 - 8_000 * beside.0 / flow.0 + held.0)
 }
 
 // The left half of line 24.
-fn left_b(lefts: Vph, flow: Vph, cycle: u32) -> Ms
-    requires { ⌜ (lefts .0 ≤ mostOf Volume) × (lefts .0 ≤ 43 * flow .0) × (flow .0 ≤ 14_400) × (cycle ≤ mostOf Cycle) ⌝ }
-    ensures { λ r. ⌜ r .0 ≡ part (lefts .0) (8_000 + time (lefts .0) cycle (flow .0)) ⌝ }
+fn left_b(lefts: Vph, flow: Flow, cycle: Cycle) -> Ms
+    requires { ⌜ Passes (lefts .0) (cycle .0) (flow .0) ⌝ }
+    ensures { λ r. ⌜ r .0 ≡ part (lefts .0) (8_000 + time (lefts .0) (cycle .0) (flow .0)) ⌝ }
 {
     if lefts.0 == 0 {
         return Ms(0);
@@ -174,19 +122,26 @@ fn left_b(lefts: Vph, flow: Vph, cycle: u32) -> Ms
 }
 
 // Line 24 of an approach that has volume, worked out only where it is allowed.
-fn option_b(allowed: bool, s: Approach, v: Volumes, f: Flows, w: Walking, cycle: u32) -> Ms
-    requires { ⌜ (Fair s) × (VolumesOf s v) × (FlowsOf s f) × (WalkingOf s cycle w) × (FairCycle cycle) ⌝ }
-    ensures { λ r. ⌜ r .0 ≡ cond allowed (optionB s cycle) BLANK ⌝ }
+fn option_b(allowed: bool, s: Approach, x: First, cycle: Cycle) -> Ms
+    requires { ⌜ Fair s × (x ≡ firstOf s (cycle .0)) × FairCycle (cycle .0) ⌝ }
+    ensures { λ r. ⌜ r .0 ≡ cond allowed (optionB s (cycle .0)) BLANK ⌝ }
 {
     if !allowed {
-        return Ms(NOT_ALLOWED);
+        return NOT_ALLOWED;
     }
-    let through = through_b(v.straight, f.straight, flow_b(s, f), w.through, cycle);
-    line_formulas::larger(through, left_b(s.left.volume.0, f.lefts, cycle))
+    let through = through_b(
+        x.volumes.straight,
+        x.flows.straight,
+        flow_b(s, x.flows),
+        x.walking.through,
+        cycle,
+    );
+    line_formulas::larger(through, left_b(s.left.volume.0, x.flows.lefts, cycle))
 }
 
-fn is_empty(v: Volumes) -> bool
-    ensures { λ r. ⌜ r ≡ (eqb (v .left .0) 0 && eqb (v .through .0) 0) ⌝ }
+fn is_empty(s: Approach, v: Volumes) -> bool
+    requires { ⌜ v ≡ volumesOf s ⌝ }
+    ensures { λ r. ⌜ r ≡ empty s ⌝ }
 {
     if v.left.0 != 0 {
         return false;
@@ -198,10 +153,10 @@ fn is_empty(v: Volumes) -> bool
 fn lesser_of(a: Ms, b: Ms) -> Ms
     ensures { λ r. ⌜ r .0 ≡ lesser (a .0) (b .0) ⌝ }
 {
-    if a.0 == NOT_ALLOWED {
+    if a.0 == NOT_ALLOWED.0 {
         return b;
     }
-    if b.0 == NOT_ALLOWED {
+    if b.0 == NOT_ALLOWED.0 {
         return a;
     }
     if a.0 <= b.0 { a } else { b }
@@ -209,36 +164,21 @@ fn lesser_of(a: Ms, b: Ms) -> Ms
 
 // Line 26 of an approach that has volume.
 fn weigh_if_allowed(s: Approach, frequency: u32, reference: Ms) -> Ms
-    requires { ⌜ (Fair s) × (frequency ≤ 10_000) × (Timely 1_850_000_000 (reference .0)) ⌝ }
-    ensures { λ r. ⌜ (r .0 ≡ cond (eqb (reference .0) BLANK) BLANK (weightedOf (lost s Through) (green s Through) (crossing s) frequency (reference .0))) × (Timely 1_900_000_000 (r .0)) ⌝ }
+    requires { ⌜ Fair s × (frequency ≤ whole) × Timely mostOption (reference .0) ⌝ }
+    ensures { λ r. ⌜ r .0 ≡ cond (eqb (reference .0) BLANK) BLANK (weightedOf (lost s Through) (green s Through) (crossing s) frequency (reference .0)) ⌝ }
 {
-    if reference.0 == NOT_ALLOWED {
-        return Ms(NOT_ALLOWED);
+    if reference.0 == NOT_ALLOWED.0 {
+        return NOT_ALLOWED;
     }
-    line_formulas::weigh(
-        s.through.lost.0,
-        s.through.green.0,
-        s.crossing.0,
-        frequency,
-        reference,
-    )
+    line_formulas::weigh(s, frequency, reference)
 }
 
 // Lines 23–26.
-pub fn permitted_of(
-    s: Approach,
-    o: Approach,
-    v: Volumes,
-    f: Flows,
-    w: Walking,
-    m: Meeting,
-    lane: Lane,
-    cycle: u32,
-) -> Permitted
-    requires { ⌜ (Fair s) × (VolumesOf s v) × (FlowsOf s f) × (WalkingOf s cycle w) × (MeetingOf s o m) × (LaneOf s o cycle lane) × (FairCycle cycle) ⌝ }
-    ensures { λ r. ⌜ PermittedOf s o cycle r ⌝ }
+pub fn permitted_of(s: Approach, o: Approach, x: First, m: Meeting, lane: LeftLane, cycle: Cycle) -> Permitted
+    requires { ⌜ Fair s × (x ≡ firstOf s (cycle .0)) × (m ≡ meetingOf s o) × (lane ≡ leftLaneOf s o (cycle .0)) × FairCycle (cycle .0) ⌝ }
+    ensures { λ r. ⌜ r ≡ permittedOf s o (cycle .0) ⌝ }
 {
-    if is_empty(v) {
+    if is_empty(s, x.volumes) {
         return Permitted {
             a: Ms(0),
             b: Ms(0),
@@ -246,10 +186,10 @@ pub fn permitted_of(
             weighted: Ms(0),
         };
     }
-    let a = option_a(s, o, v, f, w, m, lane, cycle);
-    let b = option_b(m.allowedb, s, v, f, w, cycle);
+    let a = option_a(s, o, x, m, lane, cycle);
+    let b = option_b(m.allowedb, s, x, cycle);
     let lesser = lesser_of(a, b);
-    let weighted = weigh_if_allowed(s, w.frequency, lesser);
+    let weighted = weigh_if_allowed(s, x.walking.frequency, lesser);
     Permitted {
         a,
         b,

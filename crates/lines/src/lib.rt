@@ -1,66 +1,81 @@
-// The 28 lines of an approach, stage by stage.
+// The 28 lines of an approach: 1–18, which look at the approach alone, then 19–28, which look across the street.
 ghost use mathlib.Core.Path.{_≡_};
-ghost use Rattle.procedure.specs.Lines.{lines};
 ghost use Rattle.procedure.specs.Ranges.{Fair, FairCycle};
-ghost use Rattle.line_stages.specs.Cells.{Bounded};
-ghost use Rattle.lines.specs.Gathered.{gathered};
-use line_stages::Flows;
-use line_stages::Lane;
-use line_stages::Permitted;
-use line_stages::Split;
-use line_stages::Times;
+ghost use Rattle.line_stages.specs.Stages.{volumesOf, firstOf, laterOf};
+ghost use Rattle.line_stages.specs.Cells.{cellsOf};
+use kinds::Cycle;
+use line_stages::First;
+use line_stages::Later;
+use line_stages::Lines;
 use line_stages::Volumes;
-use line_stages::Walking;
 use procedure::Approach;
 
-// The stages' numbers, in the lines' order.
-fn gather(v: Volumes, f: Flows, w: Walking, t: Times, l: Lane, p: Permitted, x: Split) -> [u32; 28]
-    ensures { λ r. ⌜ r ≡ gathered v f w t l p x ⌝ }
+// Lines 1–18 of an approach.
+pub fn first_of(s: Approach, cycle: Cycle) -> First
+    requires { ⌜ Fair s × FairCycle (cycle .0) ⌝ }
+    ensures { λ r. ⌜ r ≡ firstOf s (cycle .0) ⌝ }
 {
-    [
-        v.left.0,
-        v.through.0,
-        v.right.0,
-        f.turning,
-        f.left.0,
-        f.through.0,
-        f.right.0,
-        f.straight.0,
-        f.lefts.0,
-        w.right.0,
-        w.through.0,
-        w.frequency,
-        t.left.0,
-        t.through.0,
-        t.right.0,
-        t.adjustedleft.0,
-        t.adjustedthrough.0,
-        t.adjustedright.0,
-        l.heaviest.0,
-        l.share,
-        l.equivalent,
-        l.flow.0,
-        p.a.0,
-        p.b.0,
-        p.lesser.0,
-        p.weighted.0,
-        x.largest.0,
-        x.weighted.0,
-    ]
+    let volumes = line_flows::volumes_of(s);
+    let flows = line_flows::flows_of(s, volumes);
+    let walking = line_walkers::walking_of(s, volumes, cycle);
+    let times = line_times::times_of(s, volumes, flows, walking, cycle);
+    First {
+        volumes,
+        flows,
+        walking,
+        times,
+    }
 }
 
-// The lines of approach s, with o opposite it.
-pub fn lines_of(s: Approach, o: Approach, cycle: u32) -> [u32; 28]
-    requires { ⌜ Fair s × Fair o × FairCycle cycle ⌝ }
-    ensures { λ r. ⌜ (r ≡ lines s o cycle) × Bounded r ⌝ }
+// Lines 19–28 of an approach, with o opposite it, of volumes w.
+pub fn later_of(s: Approach, o: Approach, x: First, w: Volumes, cycle: Cycle) -> Later
+    requires { ⌜ Fair s × Fair o × (x ≡ firstOf s (cycle .0)) × (w ≡ volumesOf o) × FairCycle (cycle .0) ⌝ }
+    ensures { λ r. ⌜ r ≡ laterOf s o (cycle .0) ⌝ }
 {
-    let v = line_flows::volumes_of(s);
-    let f = line_flows::flows_of(s, v);
-    let w = line_walkers::walking_of(s, v, cycle);
-    let t = line_times::times_of(s, v, f, w, cycle);
-    let m = line_permitted::meeting_of(s, o, line_flows::volumes_of(o));
-    let lane = line_left_lane::lane_of(s, o, v, f, m, cycle);
-    let p = line_permitted::permitted_of(s, o, v, f, w, m, lane, cycle);
-    let x = line_split::split_of(s, v, f, w, t, cycle);
-    gather(v, f, w, t, lane, p, x)
+    let m = line_meeting::meeting_of(s, o, w);
+    let lane = line_left_lane::left_lane_of(s, o, x.volumes, x.flows, m, cycle);
+    let permitted = line_permitted::permitted_of(s, o, x, m, lane, cycle);
+    Later {
+        lane,
+        permitted,
+        split: line_split::split_of(s, x, cycle),
+    }
+}
+
+// The lines as cells of a sheet, in their order.
+pub fn cells_of(lines: Lines) -> [u32; layout::LINES]
+    ensures { λ r. ⌜ r ≡ cellsOf lines ⌝ }
+{
+    let x = lines.first;
+    let y = lines.later;
+    [
+        x.volumes.left.0,
+        x.volumes.through.0,
+        x.volumes.right.0,
+        x.flows.turning,
+        x.flows.left.0,
+        x.flows.through.0,
+        x.flows.right.0,
+        x.flows.straight.0,
+        x.flows.lefts.0,
+        x.walking.right.0,
+        x.walking.through.0,
+        x.walking.frequency,
+        x.times.left.0,
+        x.times.through.0,
+        x.times.right.0,
+        x.times.adjustedleft.0,
+        x.times.adjustedthrough.0,
+        x.times.adjustedright.0,
+        y.lane.heaviest.0,
+        y.lane.share,
+        y.lane.equivalent,
+        y.lane.flow.0,
+        y.permitted.a.0,
+        y.permitted.b.0,
+        y.permitted.lesser.0,
+        y.permitted.weighted.0,
+        y.split.largest.0,
+        y.split.weighted.0,
+    ]
 }

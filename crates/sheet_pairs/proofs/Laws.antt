@@ -7,9 +7,9 @@ use Prim.Native.Nat.{ℕ, _≤_, _<_, max}
 use native.Mathlib.Omega.{arith}
 use lib.Dec.{eqb, leb}
 use borrow.Author.Tests.{leb-true}
-use Rattle.procedure.specs.Lines.{BLANK}
+use Rattle.layout.specs.Sheet.{BLANK}
 use Rattle.procedure.specs.Pairs.{line, protected, permitted, split, picked, pair, pickOf, pickedTime, throughTime, leftTime}
-use Rattle.line_stages.specs.Cells.{Bounded}
+use Rattle.line_bounds.specs.Bounds.{mostAdjusted, mostPicked, Bounded}
 
 -- which of three times is picked, and that it is at most the third
 Picks : ℕ → ℕ → ℕ → ℕ → Type 0
@@ -38,7 +38,7 @@ permitted-parts x y h = go (eqb x BLANK) (eqb y BLANK) h
     go false false p = (omega arith, omega arith)
 
 module _ (shared : Bool) (x y : List ℕ) (bx : Bounded x) (by : Bounded y) where
-  pub split-most : split x y ≤ 20_888_000
+  pub split-most : split x y ≤ mostPicked
   unfolding split
   split-most = omega (arith, bx .line28, by .line28)
 
@@ -48,7 +48,7 @@ module _ (shared : Bool) (x y : List ℕ) (bx : Bounded x) (by : Bounded y) wher
       ⊎-elim (λ w. omega (arith, w .0)) (⊎-elim (λ w. omega (arith, w .0)) (λ w. omega (arith, w)))
       (pick-cases (protected shared x y) (permitted x y) (split x y))
 
-  pub picked-most : pickedTime (pair shared x y) ≤ 20_888_000
+  pub picked-most : pickedTime (pair shared x y) ≤ mostPicked
   unfolding pair Picks
   picked-most =
       ⊎-elim (λ w. rw (w .0) (omega (arith, w .1, split-most)))
@@ -56,19 +56,19 @@ module _ (shared : Bool) (x y : List ℕ) (bx : Bounded x) (by : Bounded y) wher
       (pick-cases (protected shared x y) (permitted x y) (split x y))
 
   -- the through time of an approach whose line 26 is one of the pair's
-  through-within : (z : List ℕ) → Bounded z → (permitted x y < BLANK → line 26 z ≤ permitted x y) → throughTime (pair shared x y) z ≤ 20_888_000
+  through-within : (z : List ℕ) → Bounded z → (permitted x y < BLANK → line 26 z ≤ permitted x y) → throughTime (pair shared x y) z ≤ mostPicked
   unfolding pair throughTime Picks
   through-within z bz low =
       ⊎-elim (λ w. rw (w .0) (omega (arith, bz .line17)))
       (⊎-elim (λ w. rw (w .0) (omega (arith, low (omega (arith, w .1, split-most)), w .1, split-most))) (λ w. rw w (omega (arith, bz .line28))))
       (pick-cases (protected shared x y) (permitted x y) (split x y))
 
-  pub through-most : (throughTime (pair shared x y) x ≤ 20_888_000) × (throughTime (pair shared x y) y ≤ 20_888_000)
+  pub through-most : (throughTime (pair shared x y) x ≤ mostPicked) × (throughTime (pair shared x y) y ≤ mostPicked)
   unfolding permitted
   through-most =
       (through-within x bx (λ h. permitted-parts (line 26 x) (line 26 y) h .0), through-within y by (λ h. permitted-parts (line 26 x) (line 26 y) h .1))
 
-  pub left-most : (z : List ℕ) → Bounded z → leftTime (pair shared x y) z ≤ 10_444_000
+  pub left-most : (z : List ℕ) → Bounded z → leftTime (pair shared x y) z ≤ mostAdjusted
   unfolding pair leftTime Picks
   left-most z bz =
       ⊎-elim (λ w. rw (w .0) (bz .line16)) (⊎-elim (λ w. rw (w .0) (omega arith)) (λ w. rw w (bz .line28)))

@@ -1,29 +1,45 @@
 // The four cells of a pair of opposite approaches: protected, permitted, split, and the one that is picked.
 ghost use mathlib.Core.Path.{_≡_};
 ghost use mathlib.Core.Bool.{cond, _||_};
+ghost use mathlib.Core.List.{[], _∷_};
 ghost use Prim.Native.Nat.{_+_, _≤_, max};
 ghost use lib.Dec.{eqb, leb};
-ghost use Rattle.procedure.specs.Lines.{BLANK};
-ghost use Rattle.procedure.specs.Pairs.{protected, permitted, split, picked, pair};
-ghost use Rattle.line_stages.specs.Cells.{Bounded};
+ghost use Rattle.layout.specs.Sheet.{BLANK as blank};
+ghost use Rattle.procedure.specs.Pairs.{picked, pair};
+ghost use Rattle.line_bounds.specs.Bounds.{mostAdjusted, Bounded};
+ghost use Rattle.line_stages.specs.Cells.{cellsOf};
+ghost use Rattle.sheet_pairs.specs.Cells.{pairCells};
+use line_stages::Lines;
+use line_stages::Times;
 use units::Ms;
 
 // Where a phasing is not allowed.
-pub const BLANK: Ms = Ms(4_294_967_295);
+pub const BLANK: Ms = Ms(layout::BLANK);
+
+// The totals of a pair, and which of them is picked.
+pub struct Pair {
+    pub protected: Ms,
+    pub permitted: Ms,
+    pub split: Ms,
+    pub picked: u32,
+}
 
 // One approach's left with the other's through, whichever is larger; not where a lane is shared.
-fn protected_time(shared: bool, left: Ms, through: Ms, otherleft: Ms, otherthrough: Ms) -> Ms
-    requires { ⌜ (left .0 ≤ 10_444_000) × (through .0 ≤ 10_444_000) × (otherleft .0 ≤ 10_444_000) × (otherthrough .0 ≤ 10_444_000) ⌝ }
-    ensures { λ r. ⌜ r .0 ≡ cond shared BLANK (max (left .0 + otherthrough .0) (otherleft .0 + through .0)) ⌝ }
+fn protected_time(shared: bool, x: Times, y: Times) -> Ms
+    requires { ⌜ (x .adjustedleft .0 ≤ mostAdjusted) × (x .adjustedthrough .0 ≤ mostAdjusted) × (y .adjustedleft .0 ≤ mostAdjusted) × (y .adjustedthrough .0 ≤ mostAdjusted) ⌝ }
+    ensures { λ r. ⌜ r .0 ≡ cond shared blank (max (x .adjustedleft .0 + y .adjustedthrough .0) (y .adjustedleft .0 + x .adjustedthrough .0)) ⌝ }
 {
     if shared {
         return BLANK;
     }
-    line_formulas::larger(Ms(left.0 + otherthrough.0), Ms(otherleft.0 + through.0))
+    line_formulas::larger(
+        Ms(x.adjustedleft.0 + y.adjustedthrough.0),
+        Ms(y.adjustedleft.0 + x.adjustedthrough.0),
+    )
 }
 
 fn permitted_time(x: Ms, y: Ms) -> Ms
-    ensures { λ r. ⌜ r .0 ≡ cond (eqb (x .0) BLANK || eqb (y .0) BLANK) BLANK (max (x .0) (y .0)) ⌝ }
+    ensures { λ r. ⌜ r .0 ≡ cond (eqb (x .0) blank || eqb (y .0) blank) blank (max (x .0) (y .0)) ⌝ }
 {
     if x.0 == BLANK.0 {
         return BLANK;
@@ -54,18 +70,30 @@ fn pick(protected: Ms, permitted: Ms, split: Ms) -> u32
     0
 }
 
-// The cells of a pair, from the 28 lines of its two approaches.
-pub fn pair_of(shared: bool, x: [u32; 28], y: [u32; 28]) -> [u32; 4]
-    requires { ⌜ Bounded x × Bounded y ⌝ }
-    ensures { λ r. ⌜ r ≡ pair shared x y ⌝ }
+// The cells of a pair, from the lines of its two approaches.
+pub fn pair_of(shared: bool, x: Lines, y: Lines) -> Pair
+    requires { ⌜ Bounded (cellsOf x) × Bounded (cellsOf y) ⌝ }
+    ensures { λ r. ⌜ pairCells r ≡ pair shared (cellsOf x) (cellsOf y) ⌝ }
 {
-    let protected = protected_time(shared, Ms(x[15]), Ms(x[16]), Ms(y[15]), Ms(y[16]));
-    let permitted = permitted_time(Ms(x[25]), Ms(y[25]));
-    let split = Ms(x[27] + y[27]);
+    let protected = protected_time(shared, x.first.times, y.first.times);
+    let permitted = permitted_time(x.later.permitted.weighted, y.later.permitted.weighted);
+    let split = Ms(x.later.split.weighted.0 + y.later.split.weighted.0);
+    Pair {
+        protected,
+        permitted,
+        split,
+        picked: pick(protected, permitted, split),
+    }
+}
+
+// The cells in their order.
+pub fn cells_of(pair: Pair) -> [u32; layout::PAIR_CELLS]
+    ensures { λ r. ⌜ r ≡ pairCells pair ⌝ }
+{
     [
-        protected.0,
-        permitted.0,
-        split.0,
-        pick(protected, permitted, split),
+        pair.protected.0,
+        pair.permitted.0,
+        pair.split.0,
+        pair.picked,
     ]
 }

@@ -10,15 +10,19 @@ returns c = rw (eq-eqb _ _ (c .if1 .taken))
 
 returns-2 : tie.Need-returns-2
 unfolding lesser
-returns-2 c = rw (ne-eqb _ _ (c .before .before .if1 .left), eq-eqb _ _ (c .if2 .taken))
+returns-2 c = rw (ne-eqb _ _ (c .before .before .before .if1 .left), eq-eqb _ _ (c .if2 .taken))
 
 returns-3 : tie.Need-returns-3
 unfolding lesser
-returns-3 c = rw (ne-eqb _ _ (c .before .before .before .before .before .if1 .left), ne-eqb _ _ (c .before .before .before .if2 .left)) (omega arith)
+returns-3 c =
+    let d = c .before .before .before in
+    rw (ne-eqb _ _ (d .before .before .before .if1 .left), ne-eqb _ _ (d .if2 .left)) (omega arith)
 
 returns-4 : tie.Need-returns-4
 unfolding lesser
-returns-4 c = rw (ne-eqb _ _ (c .before .before .before .before .before .if1 .left), ne-eqb _ _ (c .before .before .before .if2 .left)) (omega arith)
+returns-4 c =
+    let d = c .before .before .before in
+    rw (ne-eqb _ _ (d .before .before .before .if1 .left), ne-eqb _ _ (d .if2 .left)) (omega arith)
 
 pub lesser-of-spec : {M : Type 1} → statement M
 lesser-of-spec = tie.close (tie.spec returns returns-2 returns-3 returns-4)

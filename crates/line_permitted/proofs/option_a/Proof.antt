@@ -1,69 +1,45 @@
 use native.Mathlib.Omega.{arith}
+use mathlib.Core.Bool.{true, false}
+use mathlib.Core.Path.{_≡_}
 use borrow.Author.Tests.{not-true, not-false}
-use Rattle.kinds.specs.declared.Group.the-variants.{Left}
-use Rattle.procedure.specs.Lines.{optionA, leftA}
-use Rattle.line_left_lane.proofs.Laws.{carried}
+use Rattle.kinds.specs.declared.Group.the-variants.{Left, Through}
+use Rattle.procedure.specs.Lines.{allowedA, optionA, leftA}
+use Rattle.line_bounds.proofs.Flows.{group-serving}
+use Rattle.line_bounds.proofs.Times.{group-passes, interference-most}
+use Rattle.line_bounds.proofs.LeftLane.{carried, share-within}
 use borrow.Author.Needs.{needs}
 use Rattle.line_permitted.proofs.option_a.Statement.{statement}
 use Rattle.line_permitted.proofs.option_a.Tie as tie
 
 returns : tie.Need-returns
-returns c = rw (not-true (c .before .before .args .m .alloweda) (c .if1 .taken))
+returns c =
+    let s = c .before .before in
+    let refused : allowedA (s .args .s) (s .args .o) ≡ false = rw (s .pre .2) at (not-true (s .args .m .alloweda) (c .if1 .taken)) in
+    rw refused
 
 option-a-of-requires : tie.Need-option-a-of-requires
 option-a-of-requires c κs =
     let s = c .before .before in
-    let x = s .args in
-    let volumes = s .pre .1 in
-    let flows = s .pre .2 in
-    let lane = s .pre .5 in
-    let room = carried (x .s) (x .o) (x .cycle) (x .v) (x .f) (x .m) (s .pre .0) volumes flows (s .pre .4) (s .pre .6) in (
-      lane .heaviest-most,
-      lane .flow-serves,
-      (λ some. rw (lane .flow) (room .flow-least (omega (arith, volumes .through)))),
-      rw (lane .flow) (room .flow-most),
-      volumes .through-most,
-      rw (volumes .through) (flows .through-serves),
-      flows .through-most,
-      s .pre .3 .through-most,
-      s .pre .6 .most,
+    let a = s .args in
+    let lane = carried (a .s) (a .o) (a .cycle .0) (s .pre .0) (s .pre .4) in
+    rw (s .pre .1, s .pre .3) (
+      (lane .heaviest-most, lane .flow-serves, lane .flow-least, lane .flow-most),
+      (group-passes _ _ (s .pre .0) (s .pre .4) Through, interference-most _ _ Through),
     )
 
 left-option-a-requires : tie.Need-left-option-a-requires
 left-option-a-requires c κs =
     let s = c .before .before .before in
-    let volumes = s .pre .1 in
-    let flows = s .pre .2 in (
-      volumes .left-most,
-      (λ some. s .pre .0 .served Left (omega (arith, volumes .left))),
-      flows .left-lanes,
-      rw (volumes .left) (flows .left-serves),
-      flows .left-most,
-      s .pre .4 .share-most,
-      s .pre .6,
-    )
+    let passes = group-passes (s .args .s) (s .args .cycle .0) (s .pre .0) (s .pre .4) Left in
+    let served = group-serving (s .args .s) (s .pre .0) Left in
+    rw (s .pre .1, s .pre .2) (passes, s .pre .0 .served Left, served .least, share-within (s .args .o), s .pre .4)
 
 returns-2 : tie.Need-returns-2
 unfolding optionA leftA
 returns-2 c =
     let s = c .before .before .before .before .before in
-    let volumes = s .pre .1 in
-    let flows = s .pre .2 in
-    let lane = s .pre .5 in
-    rw (
-      not-false (s .args .m .alloweda) (c .before .before .before .if1 .left),
-      c .larger .ensures,
-      c .before .left-option-a .ensures,
-      c .before .before .option-a-of .ensures,
-      volumes .through,
-      volumes .left,
-      flows .through,
-      flows .left,
-      s .pre .3 .through,
-      s .pre .4 .share,
-      lane .heaviest,
-      lane .flow,
-    )
+    let allowed : allowedA (s .args .s) (s .args .o) ≡ true = rw (s .pre .2) at (not-false (s .args .m .alloweda) (c .before .before .before .if1 .left)) in
+    rw (allowed, c .larger .ensures, c .before .left-option-a .ensures, c .before .before .option-a-of .ensures, s .pre .1, s .pre .2, s .pre .3)
 
 pub option-a-spec : {M : Type 1} → statement M
 option-a-spec = tie.close (tie.spec returns option-a-of-requires left-option-a-requires (search needs) returns-2)

@@ -8,7 +8,4 @@ unfolding pair protected permitted split
 returns c = rw (c .pick .ensures, c .before .permitted-time .ensures, c .before .before .protected-time .ensures)
 
 pub pair-of-spec : {M : Type 1} → statement M
-pair-of-spec =
-    tie.close
-    (tie.spec (search needs) (search needs) (search needs) (search needs) (search needs) (search needs)
-    (search needs) (search needs) (search needs) (search needs) (search needs) (search needs) returns)
+pair-of-spec = tie.close (tie.spec (search needs) (search needs) (search needs) (search needs) returns)

@@ -1,7 +1,7 @@
 use borrow.Author.Tests.{eq-eqb, ne-eqb}
 use Rattle.procedure.specs.Lines.{single}
-use Rattle.line_permitted.proofs.is_single.Statement.{statement}
-use Rattle.line_permitted.proofs.is_single.Tie as tie
+use Rattle.line_meeting.proofs.is_single.Statement.{statement}
+use Rattle.line_meeting.proofs.is_single.Tie as tie
 
 returns : tie.Need-returns
 unfolding single

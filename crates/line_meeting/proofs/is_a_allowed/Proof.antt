@@ -1,8 +1,8 @@
 use borrow.Author.Tests.{lt-ltb, le-ltb}
 use Rattle.procedure.specs.Lines.{allowedA}
 use borrow.Author.Needs.{needs}
-use Rattle.line_permitted.proofs.is_a_allowed.Statement.{statement}
-use Rattle.line_permitted.proofs.is_a_allowed.Tie as tie
+use Rattle.line_meeting.proofs.is_a_allowed.Statement.{statement}
+use Rattle.line_meeting.proofs.is_a_allowed.Tie as tie
 
 returns : tie.Need-returns
 unfolding allowedA
