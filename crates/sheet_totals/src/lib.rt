@@ -1,67 +1,65 @@
 // The last eight cells: right totals, combined, required, ICU and letter.
 ghost use mathlib.Core.Path.{_≡_};
-ghost use mathlib.Core.List.{[], _∷_};
 ghost use Prim.Native.Nat.{_+_, _≤_, max};
-ghost use lib.ListN.{getD};
-ghost use Rattle.kinds.specs.declared.Kind.the-variants.{Cycle};
+ghost use lib.Dec.{eqb};
+ghost use Rattle.kinds.specs.declared.Kind.the-variants.{Cycle as CycleKind};
 ghost use Rattle.kinds.specs.Kinds.{Within};
 ghost use Rattle.procedure.specs.Pairs.{line, pickOf, pickedTime, throughTime, leftTime, rightTotal, icuOf, letterOf};
 ghost use Rattle.procedure.specs.Sheet.{lastOf};
+ghost use Rattle.line_bounds.specs.Bounds.{mostAdjusted, mostPicked};
+ghost use Rattle.line_stages.specs.Cells.{cellsOf};
+ghost use Rattle.sheet_pairs.specs.Cells.{pairCells};
+use kinds::Cycle;
+use kinds::FreeRight;
+use line_stages::Lines;
+use sheet_pairs::Pair;
 use units::Ms;
 
 // The time of an approach's through, by the pick of its pair.
-fn through_time(pair: [u32; 4], lines: [u32; 28]) -> Ms
-    ensures { λ r. ⌜ r .0 ≡ throughTime pair lines ⌝ }
+fn through_time(pair: Pair, lines: Lines) -> Ms
+    ensures { λ r. ⌜ r .0 ≡ throughTime (pairCells pair) (cellsOf lines) ⌝ }
 {
-    let pick = pair[3];
-    if pick == 0 {
-        return Ms(lines[16]);
+    if pair.picked == 0 {
+        return lines.first.times.adjustedthrough;
     }
-    if pick == 1 {
-        return Ms(lines[25]);
+    if pair.picked == 1 {
+        return lines.later.permitted.weighted;
     }
-    Ms(lines[27])
+    lines.later.split.weighted
 }
 
 // The time of an approach's left, by the pick of its pair.
-fn left_time(pair: [u32; 4], lines: [u32; 28]) -> Ms
-    ensures { λ r. ⌜ r .0 ≡ leftTime pair lines ⌝ }
+fn left_time(pair: Pair, lines: Lines) -> Ms
+    ensures { λ r. ⌜ r .0 ≡ leftTime (pairCells pair) (cellsOf lines) ⌝ }
 {
-    let pick = pair[3];
-    if pick == 0 {
-        return Ms(lines[15]);
+    if pair.picked == 0 {
+        return lines.first.times.adjustedleft;
     }
-    if pick == 1 {
+    if pair.picked == 1 {
         return Ms(0);
     }
-    Ms(lines[27])
+    lines.later.split.weighted
 }
 
 // A right turn's total, with the through that crosses it and the left that comes towards it.
-fn right_total(free: bool, lines: [u32; 28], cross: Ms, left: Ms) -> Ms
-    requires { ⌜ (line 18 lines ≤ 10_444_000) × (cross .0 ≤ 20_888_000) × (left .0 ≤ 10_444_000) ⌝ }
-    ensures { λ r. ⌜ r .0 ≡ rightTotal free lines (cross .0) (left .0) ⌝ }
+fn right_total(free: FreeRight, lines: Lines, cross: Ms, left: Ms) -> Ms
+    requires { ⌜ (line 18 (cellsOf lines) ≤ mostAdjusted) × (cross .0 ≤ mostPicked) × (left .0 ≤ mostAdjusted) ⌝ }
+    ensures { λ r. ⌜ r .0 ≡ rightTotal (eqb (free .0) 1) (cellsOf lines) (cross .0) (left .0) ⌝ }
 {
-    if lines[2] == 0 {
+    if lines.first.volumes.right.0 == 0 {
         return Ms(0);
     }
-    if free {
-        return Ms(lines[17]);
+    let right = lines.first.times.adjustedright;
+    if free.0 == 1 {
+        return right;
     }
-    Ms(lines[17] + cross.0 + left.0)
+    Ms(right.0 + cross.0 + left.0)
 }
 
 // The right total of an approach, from its own pair and the pair that crosses it.
-pub fn right_of(
-    free: bool,
-    lines: [u32; 28],
-    oncoming: [u32; 28],
-    pair: [u32; 4],
-    cross: [u32; 28],
-    crosspair: [u32; 4],
-) -> Ms
-    requires { ⌜ (line 18 lines ≤ 10_444_000) × (throughTime crosspair cross ≤ 20_888_000) × (leftTime pair oncoming ≤ 10_444_000) ⌝ }
-    ensures { λ r. ⌜ r .0 ≡ rightTotal free lines (throughTime crosspair cross) (leftTime pair oncoming) ⌝ }
+pub fn right_of(free: FreeRight, lines: Lines, oncoming: Lines, pair: Pair, cross: Lines, crosspair: Pair) -> Ms
+    requires { ⌜ (line 18 (cellsOf lines) ≤ mostAdjusted) × (throughTime (pairCells crosspair) (cellsOf cross) ≤ mostPicked) × (leftTime (pairCells pair) (cellsOf oncoming) ≤ mostAdjusted) ⌝ }
+    ensures { λ r. ⌜ r .0 ≡ rightTotal (eqb (free .0) 1) (cellsOf lines) (throughTime (pairCells crosspair) (cellsOf cross)) (leftTime (pairCells pair) (cellsOf oncoming)) ⌝ }
 {
     right_total(
         free,
@@ -72,12 +70,17 @@ pub fn right_of(
 }
 
 // The time of a pair's picked phasing.
-pub fn picked_time(pair: [u32; 4]) -> Ms
-    requires { ⌜ pickOf pair ≤ 2 ⌝ }
-    ensures { λ r. ⌜ r .0 ≡ pickedTime pair ⌝ }
+pub fn picked_time(pair: Pair) -> Ms
+    requires { ⌜ pickOf (pairCells pair) ≤ 2 ⌝ }
+    ensures { λ r. ⌜ r .0 ≡ pickedTime (pairCells pair) ⌝ }
 {
-    let pick = pair[3] as usize;
-    Ms(pair[pick])
+    if pair.picked == 0 {
+        return pair.protected;
+    }
+    if pair.picked == 1 {
+        return pair.permitted;
+    }
+    pair.split
 }
 
 // A to H as 0 to 7.
@@ -106,29 +109,37 @@ fn letter_of(icu: u32) -> u32
 }
 
 // Tenths of a percent, up.
-fn icu_of(required: Ms, cycle: u32) -> u32
-    requires { ⌜ Within Cycle cycle ⌝ }
-    ensures { λ r. ⌜ r ≡ icuOf (required .0) cycle ⌝ }
+fn icu_of(required: Ms, cycle: Cycle) -> u32
+    requires { ⌜ Within CycleKind (cycle .0) ⌝ }
+    ensures { λ r. ⌜ r ≡ icuOf (required .0) (cycle .0) ⌝ }
 {
-    units::divide_up(required.0 as u64, cycle as u64) as u32
+    units::divide_up(required.0 as u64, cycle.0 as u64) as u32
 }
 
-// The last eight cells, from the right totals and the combined time.
-pub fn last_of(eb: Ms, wb: Ms, nb: Ms, sb: Ms, combined: Ms, cycle: u32) -> [u32; 8]
-    requires { ⌜ Within Cycle cycle ⌝ }
-    ensures { λ r. ⌜ r ≡ lastOf (eb .0) (wb .0) (nb .0) (sb .0) (combined .0) cycle ⌝ }
+// The right totals of the four approaches.
+pub struct Rights {
+    pub eb: Ms,
+    pub wb: Ms,
+    pub nb: Ms,
+    pub sb: Ms,
+}
+
+// The last cells, from the right totals and the combined time.
+pub fn last_of(rights: Rights, combined: Ms, cycle: Cycle) -> [u32; layout::LAST_CELLS]
+    requires { ⌜ Within CycleKind (cycle .0) ⌝ }
+    ensures { λ r. ⌜ r ≡ lastOf (rights .eb .0) (rights .wb .0) (rights .nb .0) (rights .sb .0) (combined .0) (cycle .0) ⌝ }
 {
-    let rights = line_formulas::larger(
-        line_formulas::larger(eb, wb),
-        line_formulas::larger(nb, sb),
+    let right = line_formulas::larger(
+        line_formulas::larger(rights.eb, rights.wb),
+        line_formulas::larger(rights.nb, rights.sb),
     );
-    let required = line_formulas::larger(combined, rights);
+    let required = line_formulas::larger(combined, right);
     let icu = icu_of(required, cycle);
     [
-        eb.0,
-        wb.0,
-        nb.0,
-        sb.0,
+        rights.eb.0,
+        rights.wb.0,
+        rights.nb.0,
+        rights.sb.0,
         combined.0,
         required.0,
         icu,

@@ -5,7 +5,7 @@ use Rattle.sheet_pairs.proofs.pair_of.Tie as tie
 
 returns : tie.Need-returns
 unfolding pair protected permitted split
-returns c = rw (c .pick .ensures, c .before .permitted-time .ensures, c .before .before .protected-time .ensures)
+returns c = rw (c .pick .ensures, c .before .before .before .permitted-time .ensures, c .before .before .before .before .protected-time .ensures)
 
 pub pair-of-spec : {M : Type 1} → statement M
 pair-of-spec = tie.close (tie.spec (search needs) (search needs) (search needs) (search needs) returns)

@@ -8,17 +8,17 @@ use Rattle.sheet_totals.proofs.icu_of.Statement.{statement}
 use Rattle.sheet_totals.proofs.icu_of.Tie as tie
 
 -- a quotient by a whole number is at most what is divided
-most : (s : tie.Start) → up (s .args .required .0) (s .args .cycle) ≤ s .args .required .0
+most : (s : tie.Start) → up (s .args .required .0) (s .args .cycle .0) ≤ s .args .required .0
 most s =
-    up-most (s .args .required .0) (s .args .required .0) (s .args .cycle)
-    (omega (arith, mul-le-mul-left {m = 1} {n = s .args .cycle} (s .args .required .0) (omega arith), mul-one (s .args .required .0)))
+    up-most (s .args .required .0) (s .args .required .0) (s .args .cycle .0)
+    (omega (arith, mul-le-mul-left {m = 1} {n = s .args .cycle .0} (s .args .required .0) (omega arith), mul-one (s .args .required .0)))
 
 cast-result : tie.Need-cast-result
-cast-result c = omega (arith, most (c .before .before), c .divide-up .ensures)
+cast-result c = omega (arith, most (c .before .before .before), c .divide-up .ensures)
 
 returns : tie.Need-returns
 unfolding icuOf
 returns c = c .divide-up .ensures
 
 pub icu-of-spec : {M : Type 1} → statement M
-icu-of-spec = tie.close (tie.spec (search needs) (search needs) cast-result returns)
+icu-of-spec = tie.close (tie.spec (search needs) (search needs) (search needs) cast-result returns)

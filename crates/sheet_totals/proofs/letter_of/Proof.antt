@@ -1,3 +1,4 @@
+-- Each end is passed before the next is asked.
 use Rattle.procedure.specs.Pairs.{letterOf}
 use borrow.Author.Tests.{le-leb, lt-leb}
 use Rattle.sheet_totals.proofs.letter_of.Statement.{statement}
@@ -13,27 +14,71 @@ returns-2 c = rw (lt-leb _ _ (c .before .if1 .left), le-leb _ _ (c .if2 .taken))
 
 returns-3 : tie.Need-returns-3
 unfolding letterOf
-returns-3 c = rw (lt-leb _ _ (c .before .before .if1 .left), lt-leb _ _ (c .before .if2 .left), le-leb _ _ (c .if3 .taken))
+returns-3 c =
+    rw (
+      lt-leb _ _ (c .before .before .if1 .left),
+      lt-leb _ _ (c .before .if2 .left),
+      le-leb _ _ (c .if3 .taken),
+    )
 
 returns-4 : tie.Need-returns-4
 unfolding letterOf
-returns-4 c = rw (lt-leb _ _ (c .before .before .before .if1 .left), lt-leb _ _ (c .before .before .if2 .left), lt-leb _ _ (c .before .if3 .left), le-leb _ _ (c .if4 .taken))
+returns-4 c =
+    rw (
+      lt-leb _ _ (c .before .before .before .if1 .left),
+      lt-leb _ _ (c .before .before .if2 .left),
+      lt-leb _ _ (c .before .if3 .left),
+      le-leb _ _ (c .if4 .taken),
+    )
 
 returns-5 : tie.Need-returns-5
 unfolding letterOf
-returns-5 c = rw (lt-leb _ _ (c .before .before .before .before .if1 .left), lt-leb _ _ (c .before .before .before .if2 .left), lt-leb _ _ (c .before .before .if3 .left), lt-leb _ _ (c .before .if4 .left), le-leb _ _ (c .if5 .taken))
+returns-5 c =
+    rw (
+      lt-leb _ _ (c .before .before .before .before .if1 .left),
+      lt-leb _ _ (c .before .before .before .if2 .left),
+      lt-leb _ _ (c .before .before .if3 .left),
+      lt-leb _ _ (c .before .if4 .left),
+      le-leb _ _ (c .if5 .taken),
+    )
 
 returns-6 : tie.Need-returns-6
 unfolding letterOf
-returns-6 c = rw (lt-leb _ _ (c .before .before .before .before .before .if1 .left), lt-leb _ _ (c .before .before .before .before .if2 .left), lt-leb _ _ (c .before .before .before .if3 .left), lt-leb _ _ (c .before .before .if4 .left), lt-leb _ _ (c .before .if5 .left), le-leb _ _ (c .if6 .taken))
+returns-6 c =
+    rw (
+      lt-leb _ _ (c .before .before .before .before .before .if1 .left),
+      lt-leb _ _ (c .before .before .before .before .if2 .left),
+      lt-leb _ _ (c .before .before .before .if3 .left),
+      lt-leb _ _ (c .before .before .if4 .left),
+      lt-leb _ _ (c .before .if5 .left),
+      le-leb _ _ (c .if6 .taken),
+    )
 
 returns-7 : tie.Need-returns-7
 unfolding letterOf
-returns-7 c = rw (lt-leb _ _ (c .before .before .before .before .before .before .if1 .left), lt-leb _ _ (c .before .before .before .before .before .if2 .left), lt-leb _ _ (c .before .before .before .before .if3 .left), lt-leb _ _ (c .before .before .before .if4 .left), lt-leb _ _ (c .before .before .if5 .left), lt-leb _ _ (c .before .if6 .left), le-leb _ _ (c .if7 .taken))
+returns-7 c =
+    rw (
+      lt-leb _ _ (c .before .before .before .before .before .before .if1 .left),
+      lt-leb _ _ (c .before .before .before .before .before .if2 .left),
+      lt-leb _ _ (c .before .before .before .before .if3 .left),
+      lt-leb _ _ (c .before .before .before .if4 .left),
+      lt-leb _ _ (c .before .before .if5 .left),
+      lt-leb _ _ (c .before .if6 .left),
+      le-leb _ _ (c .if7 .taken),
+    )
 
 returns-8 : tie.Need-returns-8
 unfolding letterOf
-returns-8 c = rw (lt-leb _ _ (c .before .before .before .before .before .before .if1 .left), lt-leb _ _ (c .before .before .before .before .before .if2 .left), lt-leb _ _ (c .before .before .before .before .if3 .left), lt-leb _ _ (c .before .before .before .if4 .left), lt-leb _ _ (c .before .before .if5 .left), lt-leb _ _ (c .before .if6 .left), lt-leb _ _ (c .if7 .left))
+returns-8 c =
+    rw (
+      lt-leb _ _ (c .before .before .before .before .before .before .if1 .left),
+      lt-leb _ _ (c .before .before .before .before .before .if2 .left),
+      lt-leb _ _ (c .before .before .before .before .if3 .left),
+      lt-leb _ _ (c .before .before .before .if4 .left),
+      lt-leb _ _ (c .before .before .if5 .left),
+      lt-leb _ _ (c .before .if6 .left),
+      lt-leb _ _ (c .if7 .left),
+    )
 
 pub letter-of-spec : {M : Type 1} → statement M
 letter-of-spec = tie.close (tie.spec returns returns-2 returns-3 returns-4 returns-5 returns-6 returns-7 returns-8)

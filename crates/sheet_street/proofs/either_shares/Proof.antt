@@ -1,6 +1,6 @@
 use borrow.Author.Tests.{eq-eqb, ne-eqb}
-use Rattle.sheet.proofs.either_shares.Statement.{statement}
-use Rattle.sheet.proofs.either_shares.Tie as tie
+use Rattle.sheet_street.proofs.either_shares.Statement.{statement}
+use Rattle.sheet_street.proofs.either_shares.Tie as tie
 
 returns : tie.Need-returns
 returns c = rw (eq-eqb _ _ (c .if1 .taken))
