@@ -10,21 +10,26 @@ use lib.Dec.{eqb, leb, lit≤, lit<}
 use lib.ListN.{getD, List·getD-eq-default}
 use borrow.Author.Tests.{leb-true}
 use Rattle.units.specs.Rounding.{up-most}
+use Rattle.layout.specs.Entries.{approachCount, entryCount, EB, WB, NB, SB}
+use Rattle.layout.specs.Sheet.{BLANK}
 use Rattle.lists.proofs.Tests.{at-each}
 use Rattle.kinds.specs.Kinds.{mostOf, kindAt}
 use Rattle.answers.specs.declared.Answer.the-variants.{Accepted}
+use Rattle.entries.specs.Layout.{cycle}
 use Rattle.entries.specs.Judging.{judged}
 use Rattle.entries.proofs.Laws.{accepted-count, accepted-range}
 use Rattle.procedure.specs.Approach.{readApproach}
 use Rattle.procedure.specs.Ranges.{FairCycle}
-use Rattle.procedure.specs.Lines.{BLANK}
 use Rattle.procedure.specs.Pairs.{line, protected, permitted, pair, rightTotal, icuOf, letterOf}
-use Rattle.procedure.specs.Sheet.{EB, WB, NB, SB, cycle, linesAt, pairAt, rightAt, lastOf, lastAt, sheet}
+use Rattle.procedure.specs.Sheet.{linesAt, pairAt, rightAt, lastOf, lastAt, sheet}
 use Rattle.procedure.proofs.Fair.{fair, fair-cycle}
-use Rattle.line_stages.specs.Cells.{Bounded}
+use Rattle.line_bounds.specs.Bounds.{mostAdjusted, mostPicked, mostRequired, mostIcu, Bounded}
+use Rattle.line_bounds.proofs.Numbers.{chosen-most}
+use Rattle.line_bounds.proofs.Permitted.{timely-fits}
+use Rattle.line_bounds.proofs.Lines.{Under, none, _&_, under-fits, bounded-lines, lines-fit}
 use Rattle.sheet_pairs.proofs.Laws.{split-most, pick-few}
-use Rattle.lines.proofs.NoBlank.{Under, none, _&_, under-fits, chosen-most, timely-fits, bounded-lines, lines-fit}
-use Rattle.sheet.proofs.Laws.{Small, small}
+use Rattle.sheet_street.proofs.Laws.{Small}
+use Rattle.sheet.proofs.Laws.{small-at}
 
 pub record Fits (cells : List ℕ) : Type 0 where
   pub at : (k : ℕ) → getD cells k 0 ≤ BLANK
@@ -38,14 +43,14 @@ _and_ {x} {y} h k = record { at = go x (h .at) }
     go (c ∷ z) f zero = f 0
     go (c ∷ z) f (suc i) = go z (λ j. f (suc j)) i
 
-limit-fits : (i : ℕ) → i < 81 → mostOf (kindAt i) ≤ BLANK
+limit-fits : (i : ℕ) → i < entryCount → mostOf (kindAt i) ≤ BLANK
 unfolding kindAt
-limit-fits i h = leb-true _ _ (at-each (λ j. leb (mostOf (kindAt j)) BLANK) 81 refl i h)
+limit-fits i h = leb-true _ _ (at-each (λ j. leb (mostOf (kindAt j)) BLANK) entryCount refl i h)
 
 -- ---- the pairs
 
 abbrev pub mostPair : List ℕ
-mostPair = BLANK ∷ BLANK ∷ 20_888_000 ∷ 2 ∷ []
+mostPair = BLANK ∷ BLANK ∷ mostPicked ∷ 2 ∷ []
 
 module _ (shared : Bool) (x y : List ℕ) (bx : Bounded x) (by : Bounded y) where
   protected-most : protected shared x y ≤ BLANK
@@ -66,14 +71,14 @@ module _ (shared : Bool) (x y : List ℕ) (bx : Bounded x) (by : Bounded y) wher
 
 -- ---- the last eight
 
-right-most : (free : Bool) (x : List ℕ) (cross left : ℕ) → line 18 x ≤ 10_444_000 → cross ≤ 20_888_000 → left ≤ 10_444_000 → rightTotal free x cross left ≤ 41_776_000
+right-most : (free : Bool) (x : List ℕ) (cross left : ℕ) → line 18 x ≤ mostAdjusted → cross ≤ mostPicked → left ≤ mostAdjusted → rightTotal free x cross left ≤ mostRequired
 unfolding rightTotal
 right-most free x cross left h k l =
     chosen-most (eqb (line 3 x) 0) (λ nothing. lit≤ tt) (λ some. chosen-most free (λ alone. omega arith) (λ all. omega arith))
 
-icu-most : (required CL : ℕ) → required ≤ 41_776_000 → FairCycle CL → icuOf required CL ≤ 1_392_534
+icu-most : (required CL : ℕ) → required ≤ mostRequired → FairCycle CL → icuOf required CL ≤ mostIcu
 unfolding icuOf
-icu-most required CL h cycle = up-most 1_392_534 required CL (omega (arith, cycle .least))
+icu-most required CL h cycle = up-most mostIcu required CL (omega (arith, cycle .least))
 
 pub letter-most : (icu : ℕ) → letterOf icu ≤ 7
 unfolding letterOf
@@ -86,15 +91,15 @@ letter-most icu =
     chosen-most (leb icu 1000) (λ F. lit≤ tt) (λ _. chosen-most (leb icu 1090) (λ G. lit≤ tt) (λ H. lit≤ tt)))))))
 
 abbrev pub mostLast : List ℕ
-mostLast = 41_776_000 ∷ 41_776_000 ∷ 41_776_000 ∷ 41_776_000 ∷ 41_776_000 ∷ 41_776_000 ∷ 1_392_534 ∷ 7 ∷ []
+mostLast = mostRequired ∷ mostRequired ∷ mostRequired ∷ mostRequired ∷ mostRequired ∷ mostRequired ∷ mostIcu ∷ 7 ∷ []
 
 last-most :
     (eb wb nb sb combined CL : ℕ)
-    → eb ≤ 41_776_000 → wb ≤ 41_776_000 → nb ≤ 41_776_000 → sb ≤ 41_776_000 → combined ≤ 41_776_000 → FairCycle CL
+    → eb ≤ mostRequired → wb ≤ mostRequired → nb ≤ mostRequired → sb ≤ mostRequired → combined ≤ mostRequired → FairCycle CL
     → Under mostLast (lastOf eb wb nb sb combined CL)
 unfolding lastOf
 last-most eb wb nb sb combined CL e w n s c cycle =
-    let required : max combined (max (max eb wb) (max nb sb)) ≤ 41_776_000 = omega arith in
+    let required : max combined (max (max eb wb) (max nb sb)) ≤ mostRequired = omega arith in
     e & w & n & s & c & required & icu-most _ CL required cycle & letter-most _ & none
 
 -- ---- of acceptable entries
@@ -104,28 +109,26 @@ record StreetFits (e : List ℕ) (a o : ℕ) : Type 0 where
   first : Fits (linesAt e a o)
   second : Fits (linesAt e o a)
   pair : Fits (pairAt e a o)
-  first-bounded : Bounded (linesAt e a o)
-  second-bounded : Bounded (linesAt e o a)
   times : Small (linesAt e a o) (linesAt e o a) (pairAt e a o)
 
 module _ (e : List ℕ) (ok : judged e ≡ Accepted) where
   entries-fit : Fits e
-  entries-fit = record { at = λ i. go i (decLt i 81) }
+  entries-fit = record { at = λ i. go i (decLt i entryCount) }
     where
-      go : (i : ℕ) → Dec (i < 81) → getD e i 0 ≤ BLANK
+      go : (i : ℕ) → Dec (i < entryCount) → getD e i 0 ≤ BLANK
       go i (yes h) = le-trans (accepted-range e ok i h .most) (limit-fits i h)
       go i (no h) = rw (List·getD-eq-default e 0 {n = i} (omega (arith, accepted-count e ok))) (lit≤ tt)
 
-  module _ (a o : ℕ) (h : a < 4) (k : o < 4) where
+  module _ (a o : ℕ) (h : a < approachCount) (k : o < approachCount) where
     lines-at-fit : Fits (linesAt e a o)
     unfolding linesAt
-    lines-at-fit = record { at = lines-fit (readApproach e a) (readApproach e o) (cycle e) (fair e ok a h) (fair e ok o k) (fair-cycle e ok) }
+    lines-at-fit = record { at = lines-fit (readApproach e a) (readApproach e o) (cycle e) (fair e ok a h) (fair-cycle e ok) }
 
     pub bounded-at : Bounded (linesAt e a o)
     unfolding linesAt
-    bounded-at = bounded-lines (readApproach e a) (readApproach e o) (cycle e) (fair e ok a h) (fair e ok o k) (fair-cycle e ok)
+    bounded-at = bounded-lines (readApproach e a) (readApproach e o) (cycle e) (fair e ok a h) (fair-cycle e ok)
 
-  street-fits : (a o : ℕ) → a < 4 → o < 4 → StreetFits e a o
+  street-fits : (a o : ℕ) → a < approachCount → o < approachCount → StreetFits e a o
   unfolding pairAt
   street-fits a o h k =
       let first = bounded-at a o h k in
@@ -134,9 +137,7 @@ module _ (e : List ℕ) (ok : judged e ≡ Accepted) where
         first = lines-at-fit a o h k;
         second = lines-at-fit o a k h;
         pair = record { at = under-fits mostPair refl (pair-most _ (linesAt e a o) (linesAt e o a) first second) };
-        first-bounded = first;
-        second-bounded = second;
-        times = small {e = e} {a = a} {o = o} (record { first = refl; second = refl; pair = refl; first-bounded = first; second-bounded = second });
+        times = small-at e ok a o h k;
       }
 
   along : StreetFits e EB WB
@@ -150,10 +151,10 @@ module _ (e : List ℕ) (ok : judged e ≡ Accepted) where
   last-fits =
       let x = along .times in
       let y = across .times in
-      let eb = right-most _ _ _ _ (along .first-bounded .line18) (y .through-second) (x .left-second) in
-      let wb = right-most _ _ _ _ (along .second-bounded .line18) (y .through-first) (x .left-first) in
-      let nb = right-most _ _ _ _ (across .first-bounded .line18) (x .through-first) (y .left-second) in
-      let sb = right-most _ _ _ _ (across .second-bounded .line18) (x .through-second) (y .left-first) in
+      let eb = right-most _ _ _ _ (x .right-first) (y .through-second) (x .left-second) in
+      let wb = right-most _ _ _ _ (x .right-second) (y .through-first) (x .left-first) in
+      let nb = right-most _ _ _ _ (y .right-first) (x .through-first) (y .left-second) in
+      let sb = right-most _ _ _ _ (y .right-second) (x .through-second) (y .left-first) in
       record { at = under-fits mostLast refl (last-most _ _ _ _ _ (cycle e) eb wb nb sb (omega (arith, x .picked, y .picked)) (fair-cycle e ok)) }
 
   pub sheet-fits : Fits (sheet e)

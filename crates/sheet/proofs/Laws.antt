@@ -1,67 +1,82 @@
 -- What the filling leans on: a street's times are small, and the parts make the whole sheet.
-use mathlib.Core.Path.{_≡_, refl, sym, _∙_}
-use mathlib.Core.Bool.{Bool, not, _||_}
-use mathlib.Core.List.{List, _++_}
-use Prim.Native.Nat.{ℕ, _+_, _≤_}
+use mathlib.Core.Path.{_≡_, refl}
+use mathlib.Core.Bool.{not}
+use mathlib.Core.List.{List, _++_, append-assoc}
+use Prim.Native.Nat.{ℕ, _+_, _<_}
 use lib.ListN.{length}
-use lib.Dec.{eqb}
+use lib.Dec.{eqb, lit<}
 use borrow.Author.Tests.{eqb-true, not-false}
 use Rattle.answers.specs.declared.Refusal.the-variants.{Size}
 use Rattle.answers.specs.declared.Answer.the-variants.{Accepted}
 use Rattle.answers.proofs.Laws.{not-refused}
+use Rattle.layout.specs.Entries.{approachCount, EB, WB, NB, SB}
+use Rattle.layout.specs.Sheet.{lastCells, sheetCount}
+use Rattle.entries.specs.Layout.{cycle}
+use Rattle.entries.specs.Judging.{judged}
+use Rattle.procedure.specs.Approach.{readApproach}
+use Rattle.procedure.specs.Pairs.{pickedTime, throughTime, leftTime, rightTotal}
+use Rattle.procedure.specs.Sheet.{linesAt, pairAt, rightAt, lastOf, lastAt, sheet}
+use Rattle.procedure.proofs.Fair.{fair, fair-cycle}
+use Rattle.line_stages.specs.Cells.{cellsOf}
+use Rattle.line_stages.proofs.Laws.{cells-are-lines}
+use Rattle.sheet_pairs.specs.Cells.{pairCells}
+use Rattle.sheet_pairs.specs.declared.Pair.{Pair}
+use Rattle.sheet_street.specs.declared.Street.{Street}
+use Rattle.sheet_street.specs.Street.{StreetOf}
+use Rattle.sheet_street.proofs.Laws.{Small, small}
 use Rattle.sheet.specs.Fill.{sheetAnswer}
-use Rattle.procedure.specs.Approach.{isShared, isFree, readApproach}
-use Rattle.procedure.specs.Pairs.{line, pair, pickOf, pickedTime, throughTime, leftTime, rightTotal}
-use Rattle.procedure.specs.Sheet.{EB, WB, NB, SB, cycle, linesAt, pairAt, rightAt, lastOf, lastAt, sheet}
-use Rattle.line_stages.specs.Cells.{Bounded}
-use Rattle.sheet_pairs.proofs.Laws.{pick-few, picked-most, through-most, left-most}
-use Rattle.sheet.specs.Street.{StreetAt}
+use Rattle.sheet.specs.Working.{StreetAt, SmallPair}
 
--- the times that the last eight cells take from a street
-pub record Small (x y cells : List ℕ) : Type 0 where
-  pub few : pickOf cells ≤ 2
-  pub picked : pickedTime cells ≤ 20_888_000
-  pub through-first : throughTime cells x ≤ 20_888_000
-  pub through-second : throughTime cells y ≤ 20_888_000
-  pub left-first : leftTime cells x ≤ 10_444_000
-  pub left-second : leftTime cells y ≤ 10_444_000
-
-pub small : {e : List ℕ} {a o : ℕ} {x y cells : List ℕ} → StreetAt e a o x y cells → Small x y cells
-unfolding pairAt
-small {e} {a} {o} {x} {y} {cells} s =
-    let shared = isShared (readApproach e a) || isShared (readApproach e o) in
-    let is : cells ≡ pair shared x y = rw (s .first, s .second) (s .pair) in
-    let bx = s .first-bounded in
-    let by = s .second-bounded in
+-- a street of the entries' approaches
+pub street-at : (e : List ℕ) (a o : ℕ) (r : Street) → StreetOf (readApproach e a) (readApproach e o) (cycle e) r → StreetAt e a o r
+unfolding linesAt pairAt
+street-at e a o r s =
     record {
-      few = rw is (pick-few shared x y bx by);
-      picked = rw is (picked-most shared x y bx by);
-      through-first = rw is (through-most shared x y bx by .0);
-      through-second = rw is (through-most shared x y bx by .1);
-      left-first = rw is (left-most shared x y bx by x bx);
-      left-second = rw is (left-most shared x y bx by y by);
+      first = rw (s .one) (cells-are-lines (readApproach e a) (readApproach e o) (cycle e));
+      second = rw (s .other) (cells-are-lines (readApproach e o) (readApproach e a) (cycle e));
+      pair = s .pair;
     }
 
+module _ (e : List ℕ) (ok : judged e ≡ Accepted) where
+  pub small-at : (a o : ℕ) → a < approachCount → o < approachCount → Small (linesAt e a o) (linesAt e o a) (pairAt e a o)
+  unfolding linesAt pairAt
+  small-at a o h k = small (readApproach e a) (readApproach e o) (cycle e) (fair e ok a h) (fair e ok o k) (fair-cycle e ok)
+
+  -- the same of the street's own values
+  pub small-street : {a o : ℕ} {r : Street} → a < approachCount → o < approachCount → StreetAt e a o r → Small (cellsOf (r .one)) (cellsOf (r .other)) (pairCells (r .pair))
+  small-street {a} {o} h k s = rw (s .first, s .second, s .pair) (small-at a o h k)
+
+pub small-pair : {x y : List ℕ} (r : Pair) → Small x y (pairCells r) → SmallPair r
+small-pair r s = record { few = s .few; picked = s .picked }
+
+pub right-assembled :
+    (e : List ℕ) (a o c d : ℕ) {x y z own cross P Q : List ℕ} {free : ℕ} → free ≡ readApproach e a .free .0
+    → x ≡ linesAt e a o → y ≡ linesAt e c d → z ≡ linesAt e o a → own ≡ P → cross ≡ Q
+    → rightTotal (eqb free 1) x (throughTime cross y) (leftTime own z) ≡ rightAt e a o c d P Q
+unfolding rightAt
+right-assembled e a o c d f p q r s t = rw (f, p, q, r, s, t)
+
 pub last-assembled :
-    (e : List ℕ) {eb wb nb sb along across : List ℕ} → StreetAt e EB WB eb wb along → StreetAt e NB SB nb sb across
-    → lastOf
-    (rightTotal (isFree (readApproach e EB)) eb (throughTime across sb) (leftTime along wb))
-    (rightTotal (isFree (readApproach e WB)) wb (throughTime across nb) (leftTime along eb))
-    (rightTotal (isFree (readApproach e NB)) nb (throughTime along eb) (leftTime across sb))
-    (rightTotal (isFree (readApproach e SB)) sb (throughTime along wb) (leftTime across nb))
-    (pickedTime along + pickedTime across)
-    (cycle e)
-    ≡ lastAt e
-unfolding lastAt rightAt
-last-assembled e ew ns = rw (ew .first, ew .second, ew .pair, ns .first, ns .second, ns .pair)
+    (e : List ℕ) {ew ns : List ℕ} {eb wb nb sb : ℕ} → ew ≡ pairAt e EB WB → ns ≡ pairAt e NB SB
+    → eb ≡ rightAt e EB WB SB NB (pairAt e EB WB) (pairAt e NB SB) → wb ≡ rightAt e WB EB NB SB (pairAt e EB WB) (pairAt e NB SB)
+    → nb ≡ rightAt e NB SB EB WB (pairAt e NB SB) (pairAt e EB WB) → sb ≡ rightAt e SB NB WB EB (pairAt e NB SB) (pairAt e EB WB)
+    → lastOf eb wb nb sb (pickedTime ew + pickedTime ns) (cycle e) ≡ lastAt e
+unfolding lastAt
+last-assembled e p q r s t u = rw (p, q, r, s, t, u)
+
+pub last-long : (e : List ℕ) → length (lastAt e) ≡ lastCells
+unfolding lastAt lastOf
+last-long e = refl
 
 pub sheet-assembled :
-    (e : List ℕ) {eb wb nb sb along across last : List ℕ} → StreetAt e EB WB eb wb along → StreetAt e NB SB nb sb across → last ≡ lastAt e
-    → e ++ (eb ++ wb ++ nb ++ sb) ++ (along ++ across ++ last) ≡ sheet e
+    (e : List ℕ) {eb wb nb sb ew ns last : List ℕ}
+    → eb ≡ linesAt e EB WB → wb ≡ linesAt e WB EB → nb ≡ linesAt e NB SB → sb ≡ linesAt e SB NB
+    → ew ≡ pairAt e EB WB → ns ≡ pairAt e NB SB → last ≡ lastAt e
+    → e ++ (eb ++ wb) ++ (nb ++ sb) ++ (ew ++ ns ++ last) ≡ sheet e
 unfolding sheet
-sheet-assembled e ew ns l = rw (ew .first, ew .second, ew .pair, ns .first, ns .second, ns .pair, l)
+sheet-assembled e p q r s t u l = rw (p, q, r, s, t, u, l) (simp append-assoc)
 
--- SIZE is not answered only of a sheet of 209 numbers
-pub sheet-accepted : (d : List ℕ) → sheetAnswer d ≡ Accepted → length d ≡ 209
+-- SIZE is not answered only of a sheet of as many numbers as it should have
+pub sheet-accepted : (d : List ℕ) → sheetAnswer d ≡ Accepted → length d ≡ sheetCount
 unfolding sheetAnswer
-sheet-accepted d h = eqb-true (length d) 209 (not-false _ (not-refused (not (eqb (length d) 209)) Size 0 h))
+sheet-accepted d h = eqb-true (length d) sheetCount (not-false _ (not-refused (not (eqb (length d) sheetCount)) Size 0 h))

@@ -11,11 +11,12 @@ use borrow.Author.Tests.{eqb-true, eqb-false}
 use Rattle.answers.specs.declared.Answer.the-variants.{Accepted}
 use Rattle.entries.specs.Judging.{judged}
 use Rattle.procedure.specs.Approach.{readApproach, isShared}
-use Rattle.procedure.specs.Lines.{BLANK}
+use Rattle.layout.specs.Entries.{approachCount}
+use Rattle.layout.specs.Sheet.{BLANK}
 use Rattle.procedure.specs.Pairs.{line, protected, permitted, split, pair}
 use Rattle.procedure.specs.Sheet.{linesAt, pairAt}
-use Rattle.line_stages.specs.Cells.{Bounded}
-use Rattle.lines.proofs.NoBlank.{timely-fits}
+use Rattle.line_bounds.specs.Bounds.{Bounded}
+use Rattle.line_bounds.proofs.Permitted.{timely-fits}
 use Rattle.sheet.proofs.Fits.{bounded-at}
 
 module _ (x y : List ℕ) (bx : Bounded x) (by : Bounded y) where
@@ -46,7 +47,7 @@ pub record PairBlank (e : List ℕ) (a o : ℕ) : Type 0 where
   pub permitted : getD (pairAt e a o) 1 0 ≡ BLANK → (line 26 (linesAt e a o) ≡ BLANK) ⊎ (line 26 (linesAt e o a) ≡ BLANK)
   pub split : getD (pairAt e a o) 2 0 < BLANK
 
-pub pair-blank : (e : List ℕ) → judged e ≡ Accepted → (a o : ℕ) → a < 4 → o < 4 → PairBlank e a o
+pub pair-blank : (e : List ℕ) → judged e ≡ Accepted → (a o : ℕ) → a < approachCount → o < approachCount → PairBlank e a o
 unfolding pairAt pair
 pair-blank e ok a o h k =
     let first = bounded-at e ok a o h k in

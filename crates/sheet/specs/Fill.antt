@@ -8,7 +8,8 @@ use Rattle.answers.specs.Answers.{_then_, refuse-if, left-by}
 use Rattle.answers.specs.declared.Refusal.the-variants.{Size}
 use Rattle.answers.specs.declared.Answer.{Answer}
 use Rattle.entries.specs.Judging.{judged}
-use Rattle.procedure.specs.Sheet.{sheetCount, sheet}
+use Rattle.layout.specs.Sheet.{sheetCount}
+use Rattle.procedure.specs.Sheet.{sheet}
 
 -- 1 SIZE: "or sheet not 209"
 unfoldable pub sheetAnswer : List ℕ → Answer

@@ -1,2 +1,2 @@
-pub mod Street
+pub mod Working
 pub mod Fill

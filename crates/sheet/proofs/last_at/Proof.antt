@@ -1,42 +1,42 @@
-use Rattle.sheet.proofs.Laws.{small, last-assembled}
 use Rattle.procedure.proofs.Fair.{fair-cycle}
 use Rattle.entries.proofs.Laws.{accepted-count}
+use Rattle.sheet.proofs.Laws.{small-street, small-pair, last-assembled}
 use denote.Ref.{now}
 use lib.Dec.{lit<}
-use native.Mathlib.Omega.{arith}
 use mathlib.Core.Path.{_≡_, _∙_}
+use borrow.Author.Needs.{needs}
 use Rattle.sheet.proofs.last_at.Statement.{statement}
 use Rattle.sheet.proofs.last_at.Tie as tie
 
-right-at-requires : tie.Need-right-at-requires
-right-at-requires c κs = (accepted-count _ (c .before .pre .0), lit< tt, c .before .pre .1 .first-bounded .line18, small (c .before .pre .2) .through-second, small (c .before .pre .1) .left-second)
-
-right-at-requires-2 : tie.Need-right-at-requires-2
-right-at-requires-2 c κs = (accepted-count _ (c .before .before .pre .0), lit< tt, c .before .before .pre .1 .second-bounded .line18, small (c .before .before .pre .2) .through-first, small (c .before .before .pre .1) .left-first)
-
-right-at-requires-3 : tie.Need-right-at-requires-3
-right-at-requires-3 c κs = (accepted-count _ (c .before .before .before .pre .0), lit< tt, c .before .before .before .pre .2 .first-bounded .line18, small (c .before .before .before .pre .1) .through-first, small (c .before .before .before .pre .2) .left-second)
-
-right-at-requires-4 : tie.Need-right-at-requires-4
-right-at-requires-4 c κs = (accepted-count _ (c .before .before .before .before .pre .0), lit< tt, c .before .before .before .before .pre .2 .second-bounded .line18, small (c .before .before .before .before .pre .1) .through-second, small (c .before .before .before .before .pre .2) .left-first)
+rights-at-requires : tie.Need-rights-at-requires
+rights-at-requires c κs = c .before .pre
 
 combined-requires : tie.Need-combined-requires
-combined-requires c κs = (small (c .before .before .before .before .before .pre .1) .few, small (c .before .before .before .before .before .pre .2) .few, small (c .before .before .before .before .before .pre .1) .picked, small (c .before .before .before .before .before .pre .2) .picked)
+combined-requires c κs =
+    let s = c .before .before in
+    let e = now (s .args .entries) in (
+      small-pair (s .args .along .pair) (small-street e (s .pre .0) (lit< tt) (lit< tt) (s .pre .1)),
+      small-pair (s .args .across .pair) (small-street e (s .pre .0) (lit< tt) (lit< tt) (s .pre .2)),
+    )
 
-shared-slice-read-last-of : tie.Need-shared-slice-read-last-of
-shared-slice-read-last-of c = omega (arith, accepted-count (now (c .before .before .before .before .before .before .before .args .entries)) (c .before .before .before .before .before .before .before .pre .0))
+read-cycle-requires : tie.Need-read-cycle-requires
+read-cycle-requires c κs = accepted-count _ (c .before .before .before .pre .0)
 
 last-of-requires : tie.Need-last-of-requires
-last-of-requires c κs = fair-cycle (now (c .before .before .before .before .before .before .before .args .entries)) (c .before .before .before .before .before .before .before .pre .0)
+last-of-requires c κs =
+    let s = c .before .before .before .before in
+    rw (c .read-cycle .ensures) (fair-cycle (now (s .args .entries)) (s .pre .0))
 
 returns : tie.Need-returns
 returns c =
+    let both = c .before .before in
+    let s = both .before .before .before in
+    let r = both .before .rights-at .ensures in
     c .last-of .ensures
-    ∙ rw (c .before .before .before .before .before .before .right-at .ensures, c .before .before .before .before .before .right-at2 .ensures, c .before .before .before .before .right-at3 .ensures, c .before .before .before .right-at4 .ensures, c .before .before .combined .ensures)
-    (last-assembled (now (c .before .before .before .before .before .before .before .before .args .entries)) (c .before .before .before .before .before .before .before .before .pre .1) (c .before .before .before .before .before .before .before .before .pre .2))
+    ∙ rw (both .combined .ensures, c .before .read-cycle .ensures)
+    (last-assembled (now (s .args .entries)) (s .pre .1 .pair) (s .pre .2 .pair) (r .eb) (r .wb) (r .nb) (r .sb))
 
 pub last-at-spec : {M : Type 1} → statement M
 last-at-spec =
     tie.close
-    (tie.spec right-at-requires right-at-requires-2 right-at-requires-3 right-at-requires-4 combined-requires
-    shared-slice-read-last-of last-of-requires returns)
+    (tie.spec rights-at-requires combined-requires read-cycle-requires last-of-requires returns)
