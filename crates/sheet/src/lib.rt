@@ -48,39 +48,15 @@ fn rights_at(entries: &[u32], along: Street, across: Street) -> Rights
     requires { ⌜ (judged (now entries) ≡ Accepted) × StreetAt (now entries) EB WB along × StreetAt (now entries) NB SB across ⌝ }
     ensures { λ r. ⌜ RightsAt (now (entries .entry)) r ⌝ }
 {
+    let eb = along.one;
+    let wb = along.other;
+    let nb = across.one;
+    let sb = across.other;
     Rights {
-        eb: sheet_totals::right_of(
-            free_at(entries, 0),
-            along.one,
-            along.other,
-            along.pair,
-            across.other,
-            across.pair,
-        ),
-        wb: sheet_totals::right_of(
-            free_at(entries, 1),
-            along.other,
-            along.one,
-            along.pair,
-            across.one,
-            across.pair,
-        ),
-        nb: sheet_totals::right_of(
-            free_at(entries, 2),
-            across.one,
-            across.other,
-            across.pair,
-            along.one,
-            along.pair,
-        ),
-        sb: sheet_totals::right_of(
-            free_at(entries, 3),
-            across.other,
-            across.one,
-            across.pair,
-            along.other,
-            along.pair,
-        ),
+        eb: sheet_totals::right_of(free_at(entries, 0), eb, wb, along.pair, sb, across.pair),
+        wb: sheet_totals::right_of(free_at(entries, 1), wb, eb, along.pair, nb, across.pair),
+        nb: sheet_totals::right_of(free_at(entries, 2), nb, sb, across.pair, eb, along.pair),
+        sb: sheet_totals::right_of(free_at(entries, 3), sb, nb, across.pair, wb, along.pair),
     }
 }
 

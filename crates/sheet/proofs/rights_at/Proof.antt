@@ -18,35 +18,35 @@ across : (s : tie.Start) → Small (cellsOf (s .args .across .one)) (cellsOf (s 
 across s = small-street (now (s .args .entries)) (s .pre .0) (lit< tt) (lit< tt) (s .pre .2)
 
 free-at-requires : tie.Need-free-at-requires
-free-at-requires c κs = (accepted-count _ (c .before .pre .0), lit< tt)
+free-at-requires c κs = (accepted-count _ (c .before .before .before .before .before .pre .0), lit< tt)
 
 right-of-requires : tie.Need-right-of-requires
 right-of-requires c κs =
-    let s = c .before .before in
+    let s = c .before .before .before .before .before .before in
     (along s .right-first, across s .through-second, along s .left-second)
 
 free-at-requires-2 : tie.Need-free-at-requires-2
-free-at-requires-2 c κs = (accepted-count _ (c .before .before .before .pre .0), lit< tt)
+free-at-requires-2 c κs = (accepted-count _ (c .before .before .before .before .before .before .before .pre .0), lit< tt)
 
 right-of-requires-2 : tie.Need-right-of-requires-2
 right-of-requires-2 c κs =
-    let s = c .before .before .before .before in
+    let s = c .before .before .before .before .before .before .before .before in
     (along s .right-second, across s .through-first, along s .left-first)
 
 free-at-requires-3 : tie.Need-free-at-requires-3
-free-at-requires-3 c κs = (accepted-count _ (c .before .before .before .before .before .pre .0), lit< tt)
+free-at-requires-3 c κs = (accepted-count _ (c .before .before .before .before .before .before .before .before .before .pre .0), lit< tt)
 
 right-of-requires-3 : tie.Need-right-of-requires-3
 right-of-requires-3 c κs =
-    let s = c .before .before .before .before .before .before in
+    let s = c .before .before .before .before .before .before .before .before .before .before in
     (across s .right-first, along s .through-first, across s .left-second)
 
 free-at-requires-4 : tie.Need-free-at-requires-4
-free-at-requires-4 c κs = (accepted-count _ (c .before .before .before .before .before .before .before .pre .0), lit< tt)
+free-at-requires-4 c κs = (accepted-count _ (c .before .before .before .before .before .before .before .before .before .before .before .pre .0), lit< tt)
 
 right-of-requires-4 : tie.Need-right-of-requires-4
 right-of-requires-4 c κs =
-    let s = c .before .before .before .before .before .before .before .before in
+    let s = c .before .before .before .before .before .before .before .before .before .before .before .before in
     (across s .right-second, along s .through-second, across s .left-first)
 
 returns : tie.Need-returns
@@ -54,7 +54,7 @@ returns c =
     let nb = c .before .before in
     let wb = nb .before .before in
     let eb = wb .before .before in
-    let s = eb .before .before .before in
+    let s = eb .before .before .before .before .before .before .before in
     let e = now (s .args .entries) in
     let ew = s .pre .1 in
     let ns = s .pre .2 in
