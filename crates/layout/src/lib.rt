@@ -75,3 +75,6 @@ pub const REQUIRED_CELL: usize = COMBINED_CELL + 1;
 pub const ICU_CELL: usize = REQUIRED_CELL + 1;
 
 pub const LETTER_CELL: usize = ICU_CELL + 1;
+
+// What a cell holds where an option is not allowed.
+pub const BLANK: u32 = 4_294_967_295;

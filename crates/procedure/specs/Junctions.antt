@@ -4,10 +4,10 @@ use Prim.Native.Nat.{ℕ, _*_}
 use lib.ListN.{getD, set}
 use Rattle.line_decay.specs.Decay.{decayNumber}
 use Rattle.procedure.specs.Approach.{readApproach}
-use Rattle.procedure.specs.Lines.{BLANK, leftShare, equivalent, leftA}
+use Rattle.procedure.specs.Lines.{leftShare, equivalent, leftA}
 use Rattle.procedure.specs.Pairs.{line, letterOf}
 use Rattle.layout.specs.Entries.{EB, WB, left, through, volumeNo, walkersNo, crossingNo, movementPlace, approachPlace}
-use Rattle.layout.specs.Sheet.{protectedCell, permittedCell, splitCell, pickCell, requiredCell, icuCell, letterCell}
+use Rattle.layout.specs.Sheet.{BLANK, protectedCell, permittedCell, splitCell, pickCell, requiredCell, icuCell, letterCell}
 use Rattle.procedure.specs.Sheet.{linesAt, sheet}
 
 -- a movement: lanes and volume; "flows 1,900, lost and minimum 4,000"

@@ -5,6 +5,7 @@ use mathlib.Core.Bool.{Bool, cond, not, _&&_, _||_}
 use mathlib.Core.List.{List, [], _∷_, _++_}
 use Prim.Native.Nat.{ℕ, _+_, _-_, _*_, _/_, max, min}
 use lib.Dec.{eqb, leb, ltb}
+use Rattle.layout.specs.Sheet.{BLANK}
 use Rattle.units.specs.Rounding.{up}
 use Rattle.units.specs.Unit.{flowUnit}
 use Rattle.line_decay.specs.Decay.{decayNumber as D}
@@ -13,10 +14,6 @@ use Rattle.kinds.specs.declared.Group.{Group}
 use Rattle.kinds.specs.declared.Group.the-variants.{Left, Through, Right}
 use Rattle.procedure.specs.declared.Approach.{Approach}
 use Rattle.procedure.specs.Approach.{n, v, i, lost, green, p, crossing, isShared, hasButton}
-
--- "BLANK is 4,294,967,295 and stands for 'not allowed'"
-abbrev pub BLANK : ℕ
-BLANK = 4_294_967_295
 
 -- "the folded right a, folded left b"
 unfoldable pub a : Approach → ℕ

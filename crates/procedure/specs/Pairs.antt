@@ -5,7 +5,7 @@ use Prim.Native.Nat.{ℕ, zero, suc, _+_, _-_, max}
 use lib.Dec.{eqb, leb}
 use lib.ListN.{getD}
 use Rattle.units.specs.Rounding.{up}
-use Rattle.procedure.specs.Lines.{BLANK}
+use Rattle.layout.specs.Sheet.{BLANK}
 
 -- line k of an approach's 28
 abbrev pub line : ℕ → List ℕ → ℕ
