@@ -35,7 +35,7 @@ returns-3 c =
       c .star-over .ensures,
       star .is-starred .ensures,
       value .shown .ensures,
-      value .before .cell .ensures,
+      value .before .value-of .ensures,
       value .before .before .cell-in .ensures,
       ← unit .before .at .ensures .0,
       ← unit .unit-of .ensures,
