@@ -1,10 +1,9 @@
--- Laws of a row's bytes, and of the rows of what changed.
+-- Laws of the rows of what changed.
 use Prim.Native.Nat.{ℕ, zero, suc, _+_, _*_, _≤_, _<_}
 use mathlib.Core.Path.{_≡_, refl}
 use mathlib.Core.Bool.{Bool, true, false}
 use mathlib.Core.List.{List, _++_, append-nil}
 use lib.ListN.{length, length-append}
-use borrow.Author.Tests.{lt-ltb, le-ltb, eq-eqb, ne-eqb}
 use native.Mathlib.Numerals.{add-one}
 use native.Mathlib.Omega.{arith}
 use Rattle.lists.specs.Lists.{table, over}
@@ -12,24 +11,8 @@ use Rattle.lists.proofs.Laws.{length-table}
 use Rattle.text.specs.Text.{ascii, Placed}
 use Rattle.text.proofs.Laws.{placed-next}
 use Rattle.layout.specs.Sheet.{sheetCount}
-use Rattle.page_form.specs.Form.{titleWidth, titleByte}
-use Rattle.page.specs.Worksheet.{lineFeed, rowEnd, rowWidth, inRow, changeByte, isListed, changeHead, changeRows}
+use Rattle.page.specs.Worksheet.{rowWidth, changeByte, isListed, changeHead, changeRows}
 use Rattle.page.specs.Working.{changeBytes}
-
--- the three parts of a row
-
-module _ (row i field : ℕ) where
-  pub at-end : i ≡ rowEnd → lineFeed ≡ inRow row i field
-  unfolding inRow
-  at-end h = simp (eq-eqb i rowEnd h)
-
-  pub in-title : (i ≡ rowEnd → ⊥) → i < titleWidth → titleByte (titleWidth * row + i) ≡ inRow row i field
-  unfolding inRow
-  in-title n h = simp (ne-eqb i rowEnd n, lt-ltb i titleWidth h)
-
-  pub in-field : (i ≡ rowEnd → ⊥) → titleWidth ≤ i → field ≡ inRow row i field
-  unfolding inRow
-  in-field n h = simp (ne-eqb i rowEnd n, le-ltb i titleWidth h)
 
 -- what changed, row after row
 

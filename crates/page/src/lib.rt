@@ -6,7 +6,7 @@ ghost use Rattle.lists.specs.Lists.{table, over};
 ghost use Rattle.layout.specs.Entries.{approachCount};
 ghost use Rattle.page_form.specs.Form.{rowCount};
 ghost use Rattle.page_fields.specs.Fields.{fieldWidth};
-ghost use Rattle.page.specs.Worksheet.{starOver, starred, fieldByte, rowWidth, rowByte, sheetBytes, sheetText};
+ghost use Rattle.page.specs.Worksheet.{starOver, starred, fieldByte, rowWidth, inRow, rowByte, sheetBytes, sheetText};
 ghost use Rattle.page.specs.Worksheet.{shownCell, changeField, changeByte, isListed, changeText};
 
 // A row is a title, a field for each approach and a line feed.
@@ -50,6 +50,7 @@ fn is_starred(cells: &[u32], row: usize, column: usize, p: usize) -> bool
     false
 }
 
+// The star goes over a blank only.
 fn star_over(star: bool, byte: u8) -> u8
     ensures { λ r. ⌜ r ≡ starOver star byte ⌝ }
 {
@@ -59,6 +60,7 @@ fn star_over(star: bool, byte: u8) -> u8
     byte
 }
 
+// Place p, from the right, of a field: a heading's name, a cell's value, or blank past the last column.
 fn field_byte(cells: &[u32], row: usize, column: usize, p: usize) -> u8
     requires { ⌜ (row < rowCount) × (p < fieldWidth) ⌝ }
     ensures { λ r. ⌜ r ≡ fieldByte (now (cells .entry)) row column p ⌝ }
@@ -75,9 +77,10 @@ fn field_byte(cells: &[u32], row: usize, column: usize, p: usize) -> u8
     star_over(is_starred(cells, row, column, p), byte)
 }
 
-fn row_byte(cells: &[u32], row: usize, i: usize) -> u8
-    requires { ⌜ (row < rowCount) × (i < rowWidth) ⌝ }
-    ensures { λ r. ⌜ r ≡ rowByte (now (cells .entry)) row i ⌝ }
+// Byte i of a row: of its title, of a field, or the line feed.
+fn in_row(row: usize, i: usize, field: u8) -> u8
+    requires { ⌜ row < rowCount ⌝ }
+    ensures { λ r. ⌜ r ≡ inRow row i field ⌝ }
 {
     if i == ROW_END {
         return b'\n';
@@ -85,8 +88,20 @@ fn row_byte(cells: &[u32], row: usize, i: usize) -> u8
     if i < page_form::TITLE_WIDTH {
         return page_form::title_byte(page_form::TITLE_WIDTH * row + i);
     }
-    let at = i - page_form::TITLE_WIDTH;
-    field_byte(cells, row, at / page_fields::FIELD_WIDTH, page_fields::LAST_PLACE - at % page_fields::FIELD_WIDTH)
+    field
+}
+
+fn row_byte(cells: &[u32], row: usize, i: usize) -> u8
+    requires { ⌜ row < rowCount ⌝ }
+    ensures { λ r. ⌜ r ≡ rowByte (now (cells .entry)) row i ⌝ }
+{
+    let at = page_form::past(i, page_form::TITLE_WIDTH);
+    let place = page_fields::LAST_PLACE - at % page_fields::FIELD_WIDTH;
+    in_row(
+        row,
+        i,
+        field_byte(cells, row, at / page_fields::FIELD_WIDTH, place),
+    )
 }
 
 fn put_sheet(cells: &[u32], out: &mut [u8])
@@ -119,6 +134,7 @@ fn shown_cell(cells: &[u32], cell: usize, p: usize) -> u8
     )
 }
 
+// Whose the cell is, what it held and what it holds.
 fn change_field(before: &[u32], after: &[u32], cell: usize, field: usize, p: usize) -> u8
     requires { ⌜ p < fieldWidth ⌝ }
     ensures { λ r. ⌜ r ≡ changeField (now (before .entry)) (now (after .entry)) cell field p ⌝ }
@@ -138,25 +154,22 @@ fn change_field(before: &[u32], after: &[u32], cell: usize, field: usize, p: usi
 }
 
 fn change_byte(before: &[u32], after: &[u32], cell: usize, i: usize) -> u8
-    requires { ⌜ i < rowWidth ⌝ }
     ensures { λ r. ⌜ r ≡ changeByte (now (before .entry)) (now (after .entry)) cell i ⌝ }
 {
-    if i == ROW_END {
-        return b'\n';
-    }
-    if i < page_form::TITLE_WIDTH {
-        return page_form::title_byte(page_form::TITLE_WIDTH * page_form::row_of(cell) + i);
-    }
-    let at = i - page_form::TITLE_WIDTH;
-    change_field(before, after, cell, at / page_fields::FIELD_WIDTH, page_fields::LAST_PLACE - at % page_fields::FIELD_WIDTH)
+    let at = page_form::past(i, page_form::TITLE_WIDTH);
+    let place = page_fields::LAST_PLACE - at % page_fields::FIELD_WIDTH;
+    let field = change_field(before, after, cell, at / page_fields::FIELD_WIDTH, place);
+    in_row(page_form::row_of(cell), i, field)
 }
 
+// The ICU and the letter are listed also where they stay.
 fn is_listed(before: &[u32], after: &[u32], cell: usize) -> bool
     ensures { λ r. ⌜ r ≡ isListed (now (before .entry)) (now (after .entry)) cell ⌝ }
 {
     value_of(before, cell) != value_of(after, cell) || layout::ICU_CELL <= cell
 }
 
+// Writes a cell's row at a place.
 fn put_change(before: &[u32], after: &[u32], cell: usize, out: &mut [u8], at: usize)
     requires { ⌜ at + rowWidth ≤ length (now out) ⌝ }
     ensures { λ _. ⌜ now (out .exit)

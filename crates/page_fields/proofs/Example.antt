@@ -5,7 +5,8 @@ use mathlib.Core.List.{List}
 use Rattle.lists.specs.Lists.{table}
 use Rattle.text.specs.Text.{ascii, joined}
 use Rattle.layout.specs.Sheet.{BLANK}
-use Rattle.page_fields.specs.Fields.{fieldWidth, lastPlace, dropped, digitByte, numberByte, seconds, factor, percent, letter, pick, fields, shown, space}
+use Rattle.page_fields.specs.Fields.{fieldWidth, lastPlace, space, dropped, digitByte, numberByte, fields, shown}
+use Rattle.page_fields.specs.Fields.{seconds, factor, percent, letter, pick}
 
 -- a whole field, from left to right
 unfoldable pub field : ℕ → ℕ → List ℕ

@@ -36,6 +36,7 @@ const FIELDS: [u8; FIELD_WIDTH * (NO_NAME + 1)] = *b"\x20        NA\
 // A to H.
 const LETTERS: u32 = 8;
 
+// A number without its last digits.
 fn dropped(number: u32, digits: usize) -> u32
     ensures { λ r. ⌜ r ≡ dropped number digits ⌝ }
 {
@@ -48,6 +49,7 @@ fn dropped(number: u32, digits: usize) -> u32
     left
 }
 
+// The digit that has so many after it; a blank before the first that is shown.
 fn digit_byte(number: u32, decimals: usize, place: usize) -> u8
     ensures { λ r. ⌜ r ≡ digitByte number decimals place ⌝ }
 {
@@ -58,6 +60,7 @@ fn digit_byte(number: u32, decimals: usize, place: usize) -> u8
     b'0' + (left % 10) as u8
 }
 
+// Place p of a number with decimals.
 fn number_byte(number: u32, decimals: usize, p: usize) -> u8
     ensures { λ r. ⌜ r ≡ numberByte number decimals p ⌝ }
 {
@@ -70,6 +73,7 @@ fn number_byte(number: u32, decimals: usize, p: usize) -> u8
     digit_byte(number, decimals, p - 1)
 }
 
+// Times are ms and shown in seconds, factors and shares ten-thousandths, the ICU tenths of a percent.
 fn decimals_of(unit: u8) -> usize
     ensures { λ r. ⌜ r ≡ decimalsOf unit ⌝ }
 {
@@ -81,6 +85,7 @@ fn decimals_of(unit: u8) -> usize
     }
 }
 
+// Place p of one of the texts.
 pub fn field_text(field: usize, p: usize) -> u8
     requires { ⌜ (field ≤ noName) × (p < fieldWidth) ⌝ }
     ensures { λ r. ⌜ r ≡ fieldText field p ⌝ }

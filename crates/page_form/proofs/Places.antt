@@ -1,4 +1,4 @@
--- Every cell of a sheet stands on the page, in the row and the column that are told of it.
+-- Every cell of a sheet stands on the page, in its row and its column.
 use mathlib.Core.Path.{_≡_, refl}
 use Prim.Native.Nat.{ℕ, _<_}
 use lib.Dec.{eqb, ltb}

@@ -204,6 +204,7 @@ pub fn title_byte(i: usize) -> u8
     0
 }
 
+// A row's unit is its title's last byte.
 pub fn unit_of(row: usize) -> u8
     requires { ⌜ row < rowCount ⌝ }
     ensures { λ r. ⌜ r ≡ unitOf row ⌝ }
@@ -212,7 +213,7 @@ pub fn unit_of(row: usize) -> u8
 }
 
 // How far a number is past another; 0 where it is not.
-fn past(number: usize, from: usize) -> usize
+pub fn past(number: usize, from: usize) -> usize
     ensures { λ r. ⌜ (r ≡ number - from) × (r ≤ number) ⌝ }
 {
     if number < from {

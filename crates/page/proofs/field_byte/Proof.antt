@@ -1,3 +1,4 @@
+-- By the tests in the order of the definition; then what each call promises.
 use borrow.Author.Needs.{needs}
 use borrow.Author.Tests.{le-leb, lt-leb, eq-eqb, ne-eqb}
 use Rattle.page.specs.Worksheet.{fieldByte}

@@ -1,3 +1,4 @@
+-- Where the place and the row are right the pick decides; else the first test that fails does.
 use mathlib.Core.Logic.{⊎-elim}
 use native.Mathlib.Omega.{arith}
 use borrow.Author.Needs.{needs}

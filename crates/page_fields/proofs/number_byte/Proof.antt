@@ -1,3 +1,4 @@
+-- The point parts the digits after it from those before it.
 use mathlib.Core.Logic.{⊎-elim}
 use native.Mathlib.Omega.{arith}
 use borrow.Author.Needs.{needs}

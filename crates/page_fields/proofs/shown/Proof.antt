@@ -1,3 +1,4 @@
+-- By the unit, in the order of the definition; then what each call promises.
 use mathlib.Core.Logic.{⊎-elim}
 use borrow.Author.Needs.{needs}
 use borrow.Author.Tests.{eq-eqb, ne-eqb}

@@ -1,3 +1,4 @@
+-- What is to fit: a section's step is at most the page's rows, and a sheet has few columns.
 use native.Mathlib.Nat.{mul-le-mul}
 use native.Mathlib.Omega.{arith}
 use Prim.Native.Nat.{ℕ, _*_, _≤_, _<_}

@@ -1,3 +1,4 @@
+-- What is to fit: a remainder is below the section's step, and the section ends on the page.
 use native.Mathlib.Nat.{mod-lt}
 use native.Mathlib.Omega.{arith}
 use Prim.Native.Nat.{ℕ, _+_, _%_, _<_}
