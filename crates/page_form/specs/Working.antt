@@ -1,4 +1,4 @@
--- What the functions of this crate lean on, and no promise to others.
+-- Bounds that only inner contracts and proofs lean on.
 use Prim.Native.Nat.{_≤_, _<_}
 use Rattle.layout.specs.Entries.{approachCount}
 use Rattle.layout.specs.Sheet.{sheetCount}
