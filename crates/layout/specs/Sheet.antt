@@ -29,15 +29,15 @@ lastFrom = pairsFrom + pairCells * pairCount
 abbrev pub sheetCount : ℕ
 sheetCount = lastFrom + lastCells
 
--- "BLANK is 4,294,967,295 and stands for 'not allowed'": the largest number of 32 bits
-abbrev pub BLANK : ℕ
-BLANK = 4_294_967_295
-
 -- the first line of approach a
 abbrev pub linesOf : ℕ → ℕ
 linesOf a = linesFrom + lineCount * a
 
--- the first cell of pair q, and the one that says which total is picked
+-- of a pair's cells, past its totals, the one that says which of them is picked
+abbrev pub pickNo : ℕ
+pickNo = 3
+
+-- the first cell of pair q, and each by name
 abbrev pub pairOf : ℕ → ℕ
 pairOf q = pairsFrom + pairCells * q
 
@@ -51,7 +51,7 @@ abbrev pub splitCell : ℕ → ℕ
 splitCell q = pairOf q + 2
 
 abbrev pub pickCell : ℕ → ℕ
-pickCell q = pairOf q + 3
+pickCell q = pairOf q + pickNo
 
 -- the last, past the right totals
 abbrev pub combinedCell : ℕ
@@ -65,3 +65,7 @@ icuCell = requiredCell + 1
 
 abbrev pub letterCell : ℕ
 letterCell = icuCell + 1
+
+-- "BLANK is 4,294,967,295 and stands for 'not allowed'": the largest number of 32 bits
+abbrev pub BLANK : ℕ
+BLANK = 4_294_967_295

@@ -1,34 +1,18 @@
--- Laws of a row's bytes, and of the rows that tell what changed.
+-- Laws of the rows of what changed.
 use Prim.Native.Nat.{ℕ, zero, suc, _+_, _*_, _≤_, _<_}
 use mathlib.Core.Path.{_≡_, refl}
 use mathlib.Core.Bool.{Bool, true, false}
 use mathlib.Core.List.{List, _++_, append-nil}
 use lib.ListN.{length, length-append}
-use borrow.Author.Tests.{lt-ltb, le-ltb, eq-eqb, ne-eqb}
 use native.Mathlib.Numerals.{add-one}
 use native.Mathlib.Omega.{arith}
 use Rattle.lists.specs.Lists.{table, over}
 use Rattle.lists.proofs.Laws.{length-table}
 use Rattle.text.specs.Text.{ascii, Placed}
 use Rattle.text.proofs.Laws.{placed-next}
-use Rattle.page_form.specs.Form.{titleWidth, titleByte}
-use Rattle.page.specs.Worksheet.{lineFeed, rowWidth, inRow}
-use Rattle.page.specs.Worksheet.{changeByte, isTold, changeHead, changeRows, cellCount, changeBytes}
-
--- the three parts of a row
-
-module _ (row i field : ℕ) where
-  pub at-end : i ≡ 79 → lineFeed ≡ inRow row i field
-  unfolding inRow
-  at-end h = simp (eq-eqb i 79 h)
-
-  pub in-title : (i ≡ 79 → ⊥) → i < titleWidth → titleByte (titleWidth * row + i) ≡ inRow row i field
-  unfolding inRow
-  in-title n h = simp (ne-eqb i 79 n, lt-ltb i titleWidth h)
-
-  pub in-field : (i ≡ 79 → ⊥) → titleWidth ≤ i → field ≡ inRow row i field
-  unfolding inRow
-  in-field n h = simp (ne-eqb i 79 n, le-ltb i titleWidth h)
+use Rattle.layout.specs.Sheet.{sheetCount}
+use Rattle.page.specs.Worksheet.{rowWidth, changeByte, isListed, changeHead, changeRows}
+use Rattle.page.specs.Working.{changeBytes}
 
 -- what changed, row after row
 
@@ -36,36 +20,36 @@ module _ (before after : List ℕ) where
   abbrev changeRow : ℕ → List ℕ
   changeRow n = table (changeByte before after n) rowWidth
 
-  rows-told : (n : ℕ) → isTold before after n ≡ true
+  rows-listed : (n : ℕ) → isListed before after n ≡ true
       → changeRows before after (n + 1) ≡ changeRows before after n ++ changeRow n
   unfolding changeRows
-  rows-told n told = rw (add-one n, told)
+  rows-listed n listed = rw (add-one n, listed)
 
-  rows-untold : (n : ℕ) → isTold before after n ≡ false
+  rows-unlisted : (n : ℕ) → isListed before after n ≡ false
       → changeRows before after (n + 1) ≡ changeRows before after n
   unfolding changeRows
-  rows-untold n untold = rw (add-one n, untold, append-nil)
+  rows-unlisted n unlisted = rw (add-one n, unlisted, append-nil)
 
   pub length-changeRows : (n : ℕ) → length (changeRows before after n) ≤ rowWidth * (n + 1)
   unfolding changeRows changeHead ascii
   length-changeRows zero = omega arith
-  length-changeRows (suc n) = by (isTold before after n) refl (length-changeRows n)
+  length-changeRows (suc n) = by (isListed before after n) refl (length-changeRows n)
     where
-      by : (b : Bool) → isTold before after n ≡ b → length (changeRows before after n) ≤ rowWidth * (n + 1)
+      by : (b : Bool) → isListed before after n ≡ b → length (changeRows before after n) ≤ rowWidth * (n + 1)
           → length (changeRows before after (suc n)) ≤ rowWidth * (suc n + 1)
       by true e h = rw (e, length-append, length-table) (omega arith)
       by false e h = rw (e, append-nil) (omega arith)
 
-  pub row-told : {list one two : List ℕ} {at : ℕ} (n : ℕ) → n < cellCount → length list ≡ changeBytes
-      → isTold before after n ≡ true
+  pub row-listed : {list one two : List ℕ} {at : ℕ} (n : ℕ) → n < sheetCount → length list ≡ changeBytes
+      → isListed before after n ≡ true
       → Placed list 0 (changeRows before after n) one at
       → two ≡ over one at (changeRow n)
       → Placed list 0 (changeRows before after (n + 1)) two (at + rowWidth)
-  row-told n few room told rows row =
-      rw (rows-told n told)
+  row-listed n few room listed rows row =
+      rw (rows-listed n listed)
       (placed-next rows (record { is = row; next = rw (length-table (changeByte before after n) rowWidth) })
       (omega (arith, length-changeRows n, length-table (changeByte before after n) rowWidth)))
 
-  pub row-untold : {list one : List ℕ} {at : ℕ} (n : ℕ) → isTold before after n ≡ false
+  pub row-unlisted : {list one : List ℕ} {at : ℕ} (n : ℕ) → isListed before after n ≡ false
       → Placed list 0 (changeRows before after n) one at → Placed list 0 (changeRows before after (n + 1)) one at
-  row-untold n untold rows = rw (rows-untold n untold) rows
+  row-unlisted n unlisted rows = rw (rows-unlisted n unlisted) rows

@@ -1,1 +1,2 @@
 pub mod Worksheet
+pub mod Working

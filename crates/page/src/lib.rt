@@ -3,147 +3,54 @@ ghost use mathlib.Core.Path.{_≡_};
 ghost use Prim.Native.Nat.{_+_, _≤_, _<_};
 ghost use lib.ListN.{length, getD};
 ghost use Rattle.lists.specs.Lists.{table, over};
-ghost use Rattle.page_form.specs.Form.{rowRoom};
-ghost use Rattle.page.specs.Worksheet.{dropped, digitByte, numberByte, decimalsOf, fieldText, pickField, columnField};
-ghost use Rattle.page.specs.Worksheet.{shown, starOver, starred, fieldByte, rowWidth, rowByte, sheetBytes, sheetText};
-ghost use Rattle.page.specs.Worksheet.{shownCell, changeField, changeByte, isTold, changeText};
+ghost use Rattle.layout.specs.Entries.{approachCount};
+ghost use Rattle.page_form.specs.Form.{rowCount};
+ghost use Rattle.page_fields.specs.Fields.{fieldWidth};
+ghost use Rattle.page.specs.Worksheet.{starOver, starred, fieldByte, rowWidth, inRow, rowByte, sheetBytes, sheetText};
+ghost use Rattle.page.specs.Worksheet.{shownCell, changeField, changeByte, isListed, changeText};
 
-pub const ROW_WIDTH: usize = 80;
+// A row is a title, a field for each approach and a line feed.
+const ROW_END: usize = page_form::TITLE_WIDTH + page_fields::FIELD_WIDTH * layout::APPROACHES;
 
-pub const SHEET_BYTES: usize = 4960;
+pub const ROW_WIDTH: usize = ROW_END + 1;
+
+pub const SHEET_BYTES: usize = page_form::ROWS * ROW_WIDTH;
 
 // Room for a heading and a row for each cell.
-pub const CHANGE_BYTES: usize = 16800;
+pub const CHANGE_BYTES: usize = ROW_WIDTH * (layout::CELLS + 1);
 
-const FIELD_WIDTH: usize = 11;
-
-const FIELDS: [u8; 121] = *b"\x20        NA\
-    \x20 protected\
-    \x20 permitted\
-    \x20     split\
-    \x20        EB\
-    \x20        WB\
-    \x20        NB\
-    \x20        SB\
-    \x20     EB-WB\
-    \x20     NB-SB\
-    \x20          ";
-
-const CHANGE_HEAD: [u8; 80] =
+const CHANGE_HEAD: [u8; ROW_WIDTH] =
     *b"no changed cell              book :      where     before      after           \n";
 
-fn dropped(number: u32, digits: usize) -> u32
-    ensures { λ r. ⌜ r ≡ dropped number digits ⌝ }
-{
-    let mut left = number;
-    let mut i: usize = 0;
-    while i < digits {
-        left /= 10;
-        i += 1;
-    }
-    left
-}
+// Before the star stands a blank, which parts its field from the one at its left.
+const STAR_PLACE: usize = page_fields::LAST_PLACE - 1;
 
-fn digit_byte(number: u32, decimals: usize, place: usize) -> u8
-    ensures { λ r. ⌜ r ≡ digitByte number decimals place ⌝ }
-{
-    let left = dropped(number, place);
-    if decimals < place && left == 0 {
-        return b' ';
-    }
-    b'0' + (left % 10) as u8
-}
+// The totals of a pair stand from this row on.
+const TOTALS_FROM: usize = page_form::Section::PAIRS.row;
 
-fn number_byte(number: u32, decimals: usize, p: usize) -> u8
-    ensures { λ r. ⌜ r ≡ numberByte number decimals p ⌝ }
+// What a cell holds; 0 past the list.
+fn value_of(cells: &[u32], cell: usize) -> u32
+    ensures { λ r. ⌜ r ≡ getD (now (cells .entry)) cell 0 ⌝ }
 {
-    if decimals == 0 || p < decimals {
-        return digit_byte(number, decimals, p);
-    }
-    if p == decimals {
-        return b'.';
-    }
-    digit_byte(number, decimals, p - 1)
-}
-
-fn decimals_of(unit: u8) -> usize
-    ensures { λ r. ⌜ r ≡ decimalsOf unit ⌝ }
-{
-    match unit {
-        b's' => 3,
-        b'f' => 4,
-        b'%' => 1,
-        _ => 0,
-    }
-}
-
-fn field_text(field: usize, p: usize) -> u8
-    requires { ⌜ (field ≤ 10) × (p ≤ 10) ⌝ }
-    ensures { λ r. ⌜ r ≡ fieldText field p ⌝ }
-{
-    FIELDS[FIELD_WIDTH * field + (10 - p)]
-}
-
-fn pick_field(value: u32) -> usize
-    ensures { λ r. ⌜ (r ≡ pickField value) × (r ≤ 10) ⌝ }
-{
-    match value {
-        0 => 1,
-        1 => 2,
-        _ => 3,
-    }
-}
-
-fn column_field(columns: usize, column: usize) -> usize
-    ensures { λ r. ⌜ (r ≡ columnField columns column) × (r ≤ 10) ⌝ }
-{
-    match columns {
-        4 => 4 + column % 4,
-        2 => 8 + column % 2,
-        _ => 10,
-    }
-}
-
-// Place p, from the right, of a cell's value.
-fn shown(unit: u8, value: u32, p: usize) -> u8
-    requires { ⌜ p ≤ 10 ⌝ }
-    ensures { λ r. ⌜ r ≡ shown unit value p ⌝ }
-{
-    if unit == b'*' {
-        return field_text(pick_field(value), p);
-    }
-    if unit == b'A' {
-        if p == 0 {
-            return b'A' + (value % 8) as u8;
-        }
-        return b' ';
-    }
-    if unit == b's' && value == sheet_pairs::BLANK.0 {
-        return field_text(0, p);
-    }
-    number_byte(value, decimals_of(unit), p)
-}
-
-fn cell(cells: &[u32], i: usize) -> u32
-    ensures { λ r. ⌜ r ≡ getD (now (cells .entry)) i 0 ⌝ }
-{
-    if i < cells.len() {
-        return cells[i];
+    if cell < cells.len() {
+        return cells[cell];
     }
     0
 }
 
 // Whether the star of the picked total stands there.
 fn is_starred(cells: &[u32], row: usize, column: usize, p: usize) -> bool
-    requires { ⌜ column < 4 ⌝ }
+    requires { ⌜ column < approachCount ⌝ }
     ensures { λ r. ⌜ r ≡ starred (now (cells .entry)) row column p ⌝ }
 {
-    if p == 9 && 52 <= row && row < 55 {
-        return cell(cells, 196 + 4 * column) as usize == row - 52;
+    if p == STAR_PLACE && TOTALS_FROM <= row && row < TOTALS_FROM + layout::PICK {
+        let pick = layout::PAIRS_FROM + layout::PAIR_CELLS * column + layout::PICK;
+        return value_of(cells, pick) as usize == row - TOTALS_FROM;
     }
     false
 }
 
+// The star goes over a blank only.
 fn star_over(star: bool, byte: u8) -> u8
     ensures { λ r. ⌜ r ≡ starOver star byte ⌝ }
 {
@@ -153,8 +60,9 @@ fn star_over(star: bool, byte: u8) -> u8
     byte
 }
 
+// Place p, from the right, of a field: a heading's name, a cell's value, or blank past the last column.
 fn field_byte(cells: &[u32], row: usize, column: usize, p: usize) -> u8
-    requires { ⌜ (row < rowRoom) × (p ≤ 10) ⌝ }
+    requires { ⌜ (row < rowCount) × (p < fieldWidth) ⌝ }
     ensures { λ r. ⌜ r ≡ fieldByte (now (cells .entry)) row column p ⌝ }
 {
     let section = page_form::Section::at(row);
@@ -163,24 +71,37 @@ fn field_byte(cells: &[u32], row: usize, column: usize, p: usize) -> u8
         return b' ';
     }
     if unit == b':' {
-        return field_text(column_field(section.columns, column), p);
+        return page_fields::field_text(page_fields::column_field(section.columns, column), p);
     }
-    let byte = shown(unit, cell(cells, page_form::cell_in(row, column)), p);
+    let byte = page_fields::shown(unit, value_of(cells, page_form::cell_in(row, column)), p);
     star_over(is_starred(cells, row, column, p), byte)
 }
 
-fn row_byte(cells: &[u32], row: usize, i: usize) -> u8
-    requires { ⌜ (row < rowRoom) × (i < rowWidth) ⌝ }
-    ensures { λ r. ⌜ r ≡ rowByte (now (cells .entry)) row i ⌝ }
+// Byte i of a row: of its title, of a field, or the line feed.
+fn in_row(row: usize, i: usize, field: u8) -> u8
+    requires { ⌜ row < rowCount ⌝ }
+    ensures { λ r. ⌜ r ≡ inRow row i field ⌝ }
 {
-    if i == 79 {
+    if i == ROW_END {
         return b'\n';
     }
     if i < page_form::TITLE_WIDTH {
         return page_form::title_byte(page_form::TITLE_WIDTH * row + i);
     }
-    let at = i - page_form::TITLE_WIDTH;
-    field_byte(cells, row, at / FIELD_WIDTH, 10 - at % FIELD_WIDTH)
+    field
+}
+
+fn row_byte(cells: &[u32], row: usize, i: usize) -> u8
+    requires { ⌜ row < rowCount ⌝ }
+    ensures { λ r. ⌜ r ≡ rowByte (now (cells .entry)) row i ⌝ }
+{
+    let at = page_form::past(i, page_form::TITLE_WIDTH);
+    let place = page_fields::LAST_PLACE - at % page_fields::FIELD_WIDTH;
+    in_row(
+        row,
+        i,
+        field_byte(cells, row, at / page_fields::FIELD_WIDTH, place),
+    )
 }
 
 fn put_sheet(cells: &[u32], out: &mut [u8])
@@ -202,80 +123,78 @@ pub fn print(cells: &[u32], out: &mut [u8; SHEET_BYTES])
 }
 
 // Place p, from the right, of a cell, as its row shows it.
-fn shown_cell(cells: &[u32], told: usize, p: usize) -> u8
-    requires { ⌜ p ≤ 10 ⌝ }
-    ensures { λ r. ⌜ r ≡ shownCell (now (cells .entry)) told p ⌝ }
+fn shown_cell(cells: &[u32], cell: usize, p: usize) -> u8
+    requires { ⌜ p < fieldWidth ⌝ }
+    ensures { λ r. ⌜ r ≡ shownCell (now (cells .entry)) cell p ⌝ }
 {
-    shown(
-        page_form::unit_of(page_form::row_of(told)),
-        cell(cells, told),
+    page_fields::shown(
+        page_form::unit_of(page_form::row_of(cell)),
+        value_of(cells, cell),
         p,
     )
 }
 
-fn change_field(before: &[u32], after: &[u32], told: usize, field: usize, p: usize) -> u8
-    requires { ⌜ p ≤ 10 ⌝ }
-    ensures { λ r. ⌜ r ≡ changeField (now (before .entry)) (now (after .entry)) told field p ⌝ }
+// Whose the cell is, what it held and what it holds.
+fn change_field(before: &[u32], after: &[u32], cell: usize, field: usize, p: usize) -> u8
+    requires { ⌜ p < fieldWidth ⌝ }
+    ensures { λ r. ⌜ r ≡ changeField (now (before .entry)) (now (after .entry)) cell field p ⌝ }
 {
     match field {
-        0 => field_text(
-            column_field(
-                page_form::Section::of(told).columns,
-                page_form::column_of(told),
+        0 => page_fields::field_text(
+            page_fields::column_field(
+                page_form::Section::of(cell).columns,
+                page_form::column_of(cell),
             ),
             p,
         ),
-        1 => shown_cell(before, told, p),
-        2 => shown_cell(after, told, p),
+        1 => shown_cell(before, cell, p),
+        2 => shown_cell(after, cell, p),
         _ => b' ',
     }
 }
 
-fn change_byte(before: &[u32], after: &[u32], told: usize, i: usize) -> u8
-    requires { ⌜ i < rowWidth ⌝ }
-    ensures { λ r. ⌜ r ≡ changeByte (now (before .entry)) (now (after .entry)) told i ⌝ }
+fn change_byte(before: &[u32], after: &[u32], cell: usize, i: usize) -> u8
+    ensures { λ r. ⌜ r ≡ changeByte (now (before .entry)) (now (after .entry)) cell i ⌝ }
 {
-    if i == 79 {
-        return b'\n';
-    }
-    if i < page_form::TITLE_WIDTH {
-        return page_form::title_byte(page_form::TITLE_WIDTH * page_form::row_of(told) + i);
-    }
-    let at = i - page_form::TITLE_WIDTH;
-    change_field(before, after, told, at / FIELD_WIDTH, 10 - at % FIELD_WIDTH)
+    let at = page_form::past(i, page_form::TITLE_WIDTH);
+    let place = page_fields::LAST_PLACE - at % page_fields::FIELD_WIDTH;
+    let field = change_field(before, after, cell, at / page_fields::FIELD_WIDTH, place);
+    in_row(page_form::row_of(cell), i, field)
 }
 
-fn is_told(before: &[u32], after: &[u32], told: usize) -> bool
-    ensures { λ r. ⌜ r ≡ isTold (now (before .entry)) (now (after .entry)) told ⌝ }
+// The ICU and the letter are listed also where they stay.
+fn is_listed(before: &[u32], after: &[u32], cell: usize) -> bool
+    ensures { λ r. ⌜ r ≡ isListed (now (before .entry)) (now (after .entry)) cell ⌝ }
 {
-    cell(before, told) != cell(after, told) || 207 <= told
+    value_of(before, cell) != value_of(after, cell) || layout::ICU_CELL <= cell
 }
 
-fn put_change(before: &[u32], after: &[u32], told: usize, out: &mut [u8], at: usize)
+// Writes a cell's row at a place.
+fn put_change(before: &[u32], after: &[u32], cell: usize, out: &mut [u8], at: usize)
     requires { ⌜ at + rowWidth ≤ length (now out) ⌝ }
     ensures { λ _. ⌜ now (out .exit)
-        ≡ over (now (out .entry)) at (table (changeByte (now (before .entry)) (now (after .entry)) told) rowWidth) ⌝ }
+        ≡ over (now (out .entry)) at (table (changeByte (now (before .entry)) (now (after .entry)) cell) rowWidth) ⌝ }
 {
     let mut i: usize = 0;
     while i < ROW_WIDTH {
-        out[at + i] = change_byte(before, after, told, i);
+        out[at + i] = change_byte(before, after, cell, i);
         i += 1;
     }
 }
 
-// Writes a row for each cell in which two sheets differ, and for the ICU and the letter; and tells how many bytes.
+// Writes a row for each cell in which two sheets differ, and for the ICU and the letter; and says how many bytes.
 pub fn changes(before: &[u32], after: &[u32], out: &mut [u8; CHANGE_BYTES]) -> usize
     ensures { λ r. ⌜ now (out .exit) ≡ over (now (out .entry)) 0 (changeText (now (before .entry)) (now (after .entry))) ⌝ }
     ensures { λ r. ⌜ r ≡ length (changeText (now (before .entry)) (now (after .entry))) ⌝ }
 {
     let mut at = text::put_bytes(out, 0, &CHANGE_HEAD);
-    let mut told: usize = 0;
-    while told < 209 {
-        if is_told(before, after, told) {
-            put_change(before, after, told, out, at);
+    let mut cell: usize = 0;
+    while cell < layout::CELLS {
+        if is_listed(before, after, cell) {
+            put_change(before, after, cell, out, at);
             at += ROW_WIDTH;
         }
-        told += 1;
+        cell += 1;
     }
     at
 }

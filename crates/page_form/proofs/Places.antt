@@ -1,8 +1,9 @@
--- Every cell of a sheet stands on the page, in the row and the column that are told of it.
+-- Every cell of a sheet stands on the page, in its row and its column.
 use mathlib.Core.Path.{_≡_, refl}
 use Prim.Native.Nat.{ℕ, _<_}
 use lib.Dec.{eqb, ltb}
 use borrow.Author.Tests.{eqb-true, ltb-true}
+use Rattle.layout.specs.Sheet.{sheetCount}
 use Rattle.lists.proofs.Tests.{at-each}
 use Rattle.page_form.specs.Form.{rowCount, sectionBy, sectionOf, cellIn, rowOf, columnOf}
 
@@ -11,11 +12,11 @@ pub record OnPage (cell : ℕ) : Type 0 where
   pub row : rowOf cell < rowCount
   pub column : columnOf cell < sectionOf cell .columns
 
-pub on-page : (cell : ℕ) → cell < 209 → OnPage cell
+pub on-page : (cell : ℕ) → cell < sheetCount → OnPage cell
 unfolding sectionBy
 on-page cell h =
     record {
-      there = eqb-true _ _ (at-each (λ c. eqb (cellIn (rowOf c) (columnOf c)) c) 209 refl cell h);
-      row = ltb-true _ _ (at-each (λ c. ltb (rowOf c) rowCount) 209 refl cell h);
-      column = ltb-true _ _ (at-each (λ c. ltb (columnOf c) (sectionOf c .columns)) 209 refl cell h);
+      there = eqb-true _ _ (at-each (λ c. eqb (cellIn (rowOf c) (columnOf c)) c) sheetCount refl cell h);
+      row = ltb-true _ _ (at-each (λ c. ltb (rowOf c) rowCount) sheetCount refl cell h);
+      column = ltb-true _ _ (at-each (λ c. ltb (columnOf c) (sectionOf c .columns)) sheetCount refl cell h);
     }

@@ -1,11 +1,15 @@
 -- The form of the printed worksheet: its rows, and which cells of a sheet stand in them.
-use Prim.Native.Nat.{ℕ, _+_, _*_, _-_, _/_, _%_, _≤_, _<_}
+use Prim.Native.Nat.{ℕ, _+_, _*_, _-_, _/_, _%_}
 use Prim.Native.String.{String}
 use mathlib.Core.Bool.{cond}
 use mathlib.Core.List.{List, [], _∷_}
 use lib.ListN.{getD}
 use lib.Dec.{ltb}
 use Rattle.text.specs.Text.{joined}
+use Rattle.layout.specs.Entries.{approachCount, groupCount, movementEntries, approachesFrom, approachEntries, cycleEntry}
+use Rattle.layout.specs.Sheet.{lineCount, linesFrom, pairCount, pairCells, pairsFrom, lastCells, lastFrom, combinedCell}
+use Rattle.page_form.specs.declared.Counted.{Counted}
+use Rattle.page_form.specs.declared.Counted.the-variants.{Rows, Cells}
 use Rattle.page_form.specs.declared.Section.{Section}
 
 -- each row's number in the rules (or L, T, R for a movement's entries, A for an approach's, P for a pair, J for the
@@ -76,13 +80,6 @@ rows =
     "J  level of service            52 A" ∷
     []
 
-abbrev pub rowCount : ℕ
-rowCount = 62
-
--- no section reaches so far
-abbrev pub rowRoom : ℕ
-rowRoom = 100
-
 abbrev pub titleWidth : ℕ
 titleWidth = 35
 
@@ -94,57 +91,66 @@ titleByte i = getD titles i 0
 
 -- a row's unit is its title's last byte
 abbrev pub unitOf : ℕ → ℕ
-unitOf row = titleByte (titleWidth * row + 34)
+unitOf row = titleByte (titleWidth * row + (titleWidth - 1))
+
+-- sections -----------------------------------------------------------------------------------------------------------
 
 infix 40 _from_by_columns_
 abbrev pub _from_by_columns_ : ℕ → ℕ → ℕ → ℕ → Section
 row from cell by step columns wide = record { row = row; cell = cell; step = step; columns = wide }
 
+-- the row or the cell past a section's: the cells of a column stand one after the other, a row each
+abbrev pub endOf : Counted → Section → ℕ
+endOf Rows s = s .row + s .step
+endOf Cells s = s .cell + s .step * s .columns
+
+-- a heading is a row, over the entries, the lines, the pairs and the last cells
+abbrev pub headed : ℕ → ℕ
+headed row = row + 1
+
 -- "The sheet is 81 entries, 28 lines of each approach, 4 cells of each pair, the last 8."
 -- The sections of rows: the first row, the cell in its first column, the step to the next column's, and the columns.
--- The cells of a column stand one after the other, a row each.
 abbrev pub movements : Section
-movements = 1 from 0 by 15 columns 4
+movements = headed 0 from 0 by (groupCount * movementEntries) columns approachCount
 
 abbrev pub approaches : Section
-approaches = 16 from 60 by 5 columns 4
+approaches = endOf Rows movements from approachesFrom by approachEntries columns approachCount
 
 abbrev pub cycle : Section
-cycle = 21 from 80 by 1 columns 1
+cycle = endOf Rows approaches from cycleEntry by 1 columns 1
 
 abbrev pub lines : Section
-lines = 23 from 81 by 28 columns 4
+lines = headed (endOf Rows cycle) from linesFrom by lineCount columns approachCount
 
 abbrev pub pairs : Section
-pairs = 52 from 193 by 4 columns 2
+pairs = headed (endOf Rows lines) from pairsFrom by pairCells columns pairCount
 
 abbrev pub rights : Section
-rights = 57 from 201 by 1 columns 4
+rights = headed (endOf Rows pairs) from lastFrom by 1 columns approachCount
 
 abbrev pub whole : Section
-whole = 58 from 205 by 4 columns 1
+whole = endOf Rows rights from combinedCell by (lastCells - approachCount) columns 1
 
--- the section of what stands at i, where each section but the first begins at the number given for it
-unfoldable pub sectionBy : ℕ → ℕ → ℕ → ℕ → ℕ → ℕ → ℕ → Section
-sectionBy i second third fourth fifth sixth last =
-    cond (ltb i second) movements
-    (cond (ltb i third) approaches
-    (cond (ltb i fourth) cycle
-    (cond (ltb i fifth) lines
-    (cond (ltb i sixth) pairs
-    (cond (ltb i last) rights whole)))))
+abbrev pub rowCount : ℕ
+rowCount = endOf Rows whole
 
--- a section's numbers are small, and none steps by nothing
-abbrev pub Small : Section → Type 0
-Small s = (s .row ≤ 58) × (s .cell ≤ 205) × (0 < s .step) × (s .step ≤ 28) × (s .columns ≤ 4)
+-- the first section that has the row or the cell i before its end, else the last
+unfoldable pub sectionBy : Counted → ℕ → Section
+sectionBy counted i =
+    cond (ltb i (endOf counted movements)) movements
+    (cond (ltb i (endOf counted approaches)) approaches
+    (cond (ltb i (endOf counted cycle)) cycle
+    (cond (ltb i (endOf counted lines)) lines
+    (cond (ltb i (endOf counted pairs)) pairs
+    (cond (ltb i (endOf counted rights)) rights whole)))))
 
 -- of a row; a heading goes with the rows under it
 abbrev pub sectionAt : ℕ → Section
-sectionAt row = sectionBy row 16 21 22 51 56 58
+sectionAt row = sectionBy Rows row
 
 -- and of a cell
 abbrev pub sectionOf : ℕ → Section
-sectionOf cell = sectionBy cell 60 80 81 193 201 205
+sectionOf cell = sectionBy Cells cell
 
 -- the cell in a column of a row
 abbrev pub cellIn : ℕ → ℕ → ℕ

@@ -1,12 +1,21 @@
 // The form of the printed worksheet: a table of its rows, and which cells of a sheet stand in them.
 ghost use mathlib.Core.Path.{_≡_};
+ghost use mathlib.Core.Bool.{cond};
 ghost use Prim.Native.Nat.{_-_, _≤_, _<_};
-ghost use Rattle.page_form.specs.Form.{rowRoom, titleByte, unitOf, sectionBy, sectionAt, sectionOf, Small, cellIn, rowOf, columnOf};
+ghost use lib.Dec.{ltb};
+ghost use Rattle.layout.specs.Entries.{approachCount};
+ghost use Rattle.page_form.specs.Form.{titleByte, unitOf, rowCount, endOf, sectionBy};
+ghost use Rattle.page_form.specs.Form.{sectionAt, sectionOf, cellIn, rowOf, columnOf};
+ghost use Rattle.page_form.specs.Working.{Small};
 
 pub const TITLE_WIDTH: usize = 35;
 
+pub const ROWS: usize = Section::WHOLE.row + Section::WHOLE.step;
+
+const TITLE_BYTES: usize = TITLE_WIDTH * ROWS;
+
 // Each row: its number in the rules, its name, its line in the book and its unit.
-const TITLES: [u8; 2170] = *b"no entry                     book :\
+const TITLES: [u8; TITLE_BYTES] = *b"no entry                     book :\
     L  lanes                        2 n\
     L  volume                       4 v\
     L  ideal flow                   9 v\
@@ -77,101 +86,111 @@ pub struct Section {
     pub columns: usize,
 }
 
+// What a section is found by.
+enum Counted {
+    Rows,
+    Cells,
+}
+
+// A heading stands over the entries, the lines, the pairs and the last cells.
+const HEADING: usize = 1;
+
 impl Section {
     const MOVEMENTS: Section = Section {
-        row: 1,
+        row: HEADING,
         cell: 0,
-        step: 15,
-        columns: 4,
+        step: layout::GROUPS * layout::MOVEMENT_ENTRIES,
+        columns: layout::APPROACHES,
     };
 
     const APPROACHES: Section = Section {
-        row: 16,
-        cell: 60,
-        step: 5,
-        columns: 4,
+        row: Section::MOVEMENTS.row + Section::MOVEMENTS.step,
+        cell: layout::APPROACHES_FROM,
+        step: layout::APPROACH_ENTRIES,
+        columns: layout::APPROACHES,
     };
 
     const CYCLE: Section = Section {
-        row: 21,
-        cell: 80,
+        row: Section::APPROACHES.row + Section::APPROACHES.step,
+        cell: layout::CYCLE_ENTRY,
         step: 1,
         columns: 1,
     };
 
     const LINES: Section = Section {
-        row: 23,
-        cell: 81,
-        step: 28,
-        columns: 4,
+        row: Section::CYCLE.row + Section::CYCLE.step + HEADING,
+        cell: layout::LINES_FROM,
+        step: layout::LINES,
+        columns: layout::APPROACHES,
     };
 
-    const PAIRS: Section = Section {
-        row: 52,
-        cell: 193,
-        step: 4,
-        columns: 2,
+    pub const PAIRS: Section = Section {
+        row: Section::LINES.row + Section::LINES.step + HEADING,
+        cell: layout::PAIRS_FROM,
+        step: layout::PAIR_CELLS,
+        columns: layout::PAIRS,
     };
 
     const RIGHTS: Section = Section {
-        row: 57,
-        cell: 201,
+        row: Section::PAIRS.row + Section::PAIRS.step + HEADING,
+        cell: layout::LAST_FROM,
         step: 1,
-        columns: 4,
+        columns: layout::APPROACHES,
     };
 
     const WHOLE: Section = Section {
-        row: 58,
-        cell: 205,
-        step: 4,
+        row: Section::RIGHTS.row + Section::RIGHTS.step,
+        cell: layout::COMBINED_CELL,
+        step: layout::LAST_CELLS - layout::APPROACHES,
         columns: 1,
     };
 
-    // The section of what stands at i, where each but the first begins at the number given for it.
-    fn by(
-        i: usize,
-        second: usize,
-        third: usize,
-        fourth: usize,
-        fifth: usize,
-        sixth: usize,
-        last: usize,
-    ) -> Section
-        ensures { λ r. ⌜ (r ≡ sectionBy i second third fourth fifth sixth last) × Small r ⌝ }
+    // The row or the cell past this section's.
+    fn end(self, counted: Counted) -> usize
+        requires { ⌜ Small self ⌝ }
+        ensures { λ r. ⌜ r ≡ endOf counted self ⌝ }
     {
-        if i < second {
-            return Section::MOVEMENTS;
+        match counted {
+            Counted::Rows => self.row + self.step,
+            Counted::Cells => self.cell + self.step * self.columns,
         }
-        if i < third {
-            return Section::APPROACHES;
+    }
+
+    // This section for what stands before its end, else another.
+    fn or(self, counted: Counted, i: usize, other: Section) -> Section
+        requires { ⌜ Small self × Small other ⌝ }
+        ensures { λ r. ⌜ (r ≡ cond (ltb i (endOf counted self)) self other) × Small r ⌝ }
+    {
+        if i < self.end(counted) {
+            return self;
         }
-        if i < fourth {
-            return Section::CYCLE;
-        }
-        if i < fifth {
-            return Section::LINES;
-        }
-        if i < sixth {
-            return Section::PAIRS;
-        }
-        if i < last {
-            return Section::RIGHTS;
-        }
-        Section::WHOLE
+        other
+    }
+
+    // The first section that has what stands at i before its end, else the last.
+    fn by(counted: Counted, i: usize) -> Section
+        ensures { λ r. ⌜ (r ≡ sectionBy counted i) × Small r ⌝ }
+    {
+        let from_rights = Section::RIGHTS.or(counted, i, Section::WHOLE);
+        let from_pairs = Section::PAIRS.or(counted, i, from_rights);
+        let from_lines = Section::LINES.or(counted, i, from_pairs);
+        let from_cycle = Section::CYCLE.or(counted, i, from_lines);
+        let from_approaches = Section::APPROACHES.or(counted, i, from_cycle);
+        Section::MOVEMENTS.or(counted, i, from_approaches)
     }
 
     // The section of a row; a heading goes with the rows under it.
     pub fn at(row: usize) -> Section
         ensures { λ r. ⌜ (r ≡ sectionAt row) × Small r ⌝ }
     {
-        Section::by(row, 16, 21, 22, 51, 56, 58)
+        Section::by(Counted::Rows, row)
     }
 
     // The section of a cell.
     pub fn of(cell: usize) -> Section
         ensures { λ r. ⌜ (r ≡ sectionOf cell) × Small r ⌝ }
     {
-        Section::by(cell, 60, 80, 81, 193, 201, 205)
+        Section::by(Counted::Cells, cell)
     }
 }
 
@@ -179,21 +198,22 @@ impl Section {
 pub fn title_byte(i: usize) -> u8
     ensures { λ r. ⌜ r ≡ titleByte i ⌝ }
 {
-    if i < 2170 {
+    if i < TITLE_BYTES {
         return TITLES[i];
     }
     0
 }
 
+// A row's unit is its title's last byte.
 pub fn unit_of(row: usize) -> u8
-    requires { ⌜ row < rowRoom ⌝ }
+    requires { ⌜ row < rowCount ⌝ }
     ensures { λ r. ⌜ r ≡ unitOf row ⌝ }
 {
-    title_byte(TITLE_WIDTH * row + 34)
+    title_byte(TITLE_WIDTH * row + (TITLE_WIDTH - 1))
 }
 
 // How far a number is past another; 0 where it is not.
-fn past(number: usize, from: usize) -> usize
+pub fn past(number: usize, from: usize) -> usize
     ensures { λ r. ⌜ (r ≡ number - from) × (r ≤ number) ⌝ }
 {
     if number < from {
@@ -204,7 +224,7 @@ fn past(number: usize, from: usize) -> usize
 
 // The cell in a column of a row.
 pub fn cell_in(row: usize, column: usize) -> usize
-    requires { ⌜ (row < rowRoom) × (column < 4) ⌝ }
+    requires { ⌜ (row < rowCount) × (column < approachCount) ⌝ }
     ensures { λ r. ⌜ r ≡ cellIn row column ⌝ }
 {
     let section = Section::at(row);
@@ -212,7 +232,7 @@ pub fn cell_in(row: usize, column: usize) -> usize
 }
 
 pub fn row_of(cell: usize) -> usize
-    ensures { λ r. ⌜ (r ≡ rowOf cell) × (r < rowRoom) ⌝ }
+    ensures { λ r. ⌜ (r ≡ rowOf cell) × (r < rowCount) ⌝ }
 {
     let section = Section::of(cell);
     section.row + past(cell, section.cell) % section.step

@@ -1,3 +1,4 @@
+-- Each field by its number; then what each call promises.
 use borrow.Author.Needs.{needs}
 use borrow.Author.Tests.{ne-eqb}
 use Rattle.page.specs.Worksheet.{changeField}

@@ -7,19 +7,21 @@ use lib.ListN.{length}
 use native.Mathlib.Omega.{arith}
 use borrow.Author.Needs.{needs}
 use Rattle.text.specs.Text.{ascii, Placed}
-use Rattle.page.specs.Worksheet.{rowWidth, changeHead, changeRows, cellCount, changeBytes}
-use Rattle.page.proofs.Laws.{row-told, row-untold}
+use Rattle.layout.specs.Sheet.{sheetCount}
+use Rattle.page.specs.Worksheet.{rowWidth, changeHead, changeRows}
+use Rattle.page.specs.Working.{changeBytes}
+use Rattle.page.proofs.Laws.{row-listed, row-unlisted}
 use Rattle.page.proofs.changes.Statement.{statement}
 use Rattle.page.proofs.changes.Tie as tie
 
 abbrev Inv-loop : tie.InvT-loop
-Inv-loop before after out₀ at₀ told₀ out at told =
-    (told ≤ cellCount) × (at ≤ rowWidth * (told + 1))
+Inv-loop before after out₀ at₀ cell₀ out at cell =
+    (cell ≤ sheetCount) × (at ≤ rowWidth * (cell + 1))
     × ((list : List ℕ) → length list ≡ changeBytes → Placed list 0 changeHead out₀ at₀
-    → Placed list 0 (changeRows before after told) out at)
+    → Placed list 0 (changeRows before after cell) out at)
 
 abbrev μ-loop : tie.MeasureT-loop
-μ-loop before after out₀ at₀ told₀ out at told = cellCount - told
+μ-loop before after out₀ at₀ cell₀ out at cell = sheetCount - cell
 
 loop-holds : tie.Need-loop-holds Inv-loop μ-loop
 unfolding changeRows
@@ -27,20 +29,20 @@ loop-holds c = (omega arith, omega (arith, c .put-bytes .ensures .next), λ list
 
 loop-again : tie.Need-loop-again Inv-loop μ-loop
 loop-again c =
-    let is = sym (c .before .is-told .ensures) in
+    let is = sym (c .before .is-listed .ensures) in
     let loop = c .before .before .before .loop in
-    let n = loop .told in
+    let n = loop .cell in
     ⊎-elim
     (λ w. (
       omega arith,
       omega (arith, w .4),
       λ list long head. rw (w .4)
-          (row-told _ _ n (omega arith) long (is ∙ w .0 .taken) (loop .inv .2 list long head) (w .3 ∙ w .2 .ensures)),
+          (row-listed _ _ n (omega arith) long (is ∙ w .0 .taken) (loop .inv .2 list long head) (w .3 ∙ w .2 .ensures)),
     ))
     (λ w. (
       omega arith,
       omega (arith, w .2),
-      λ list long head. rw (w .1, w .2) (row-untold _ _ n (is ∙ w .0 .left) (loop .inv .2 list long head)),
+      λ list long head. rw (w .1, w .2) (row-unlisted _ _ n (is ∙ w .0 .left) (loop .inv .2 list long head)),
     ))
     (c .if1 .came)
 
@@ -49,7 +51,7 @@ unfolding changeHead ascii
 returns c =
     let head = c .before .before in
     let list = head .before .before .before .before .before .args .out .now in
-    let end : c .before .loop .told ≡ cellCount = omega arith in
+    let end : c .before .loop .cell ≡ sheetCount = omega arith in
     let rows = rw end at (c .before .loop .inv .2 list (omega arith) (head .put-bytes .ensures)) in
     (rows .is, omega (arith, rows .next))
 

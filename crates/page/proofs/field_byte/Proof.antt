@@ -1,3 +1,4 @@
+-- By the tests in the order of the definition; then what each call promises.
 use borrow.Author.Needs.{needs}
 use borrow.Author.Tests.{le-leb, lt-leb, eq-eqb, ne-eqb}
 use Rattle.page.specs.Worksheet.{fieldByte}
@@ -35,7 +36,7 @@ returns-3 c =
       c .star-over .ensures,
       star .is-starred .ensures,
       value .shown .ensures,
-      value .before .cell .ensures,
+      value .before .value-of .ensures,
       value .before .before .cell-in .ensures,
       ← unit .before .at .ensures .0,
       ← unit .unit-of .ensures,

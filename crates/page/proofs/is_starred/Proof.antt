@@ -1,3 +1,4 @@
+-- Where the place and the row are right the pick decides; else the first test that fails does.
 use mathlib.Core.Logic.{⊎-elim}
 use native.Mathlib.Omega.{arith}
 use borrow.Author.Needs.{needs}
@@ -13,7 +14,7 @@ returns : tie.Need-returns
 unfolding starred
 returns c =
     let low = c .before .before in
-    rw (c .cell .ensures) (simp (eq-eqb _ _ (low .before .if1 .taken), low .if2 .taken, c .before .if3 .taken))
+    rw (c .value-of .ensures) (simp (eq-eqb _ _ (low .before .if1 .taken), low .if2 .taken, c .before .if3 .taken))
 
 returns-2 : tie.Need-returns-2
 unfolding starred
@@ -24,4 +25,5 @@ returns-2 c =
 pub is-starred-spec : {M : Type 1} → statement M
 is-starred-spec =
     tie.close
-    (tie.spec (search needs) (search needs) (search needs) (search needs) sub-result returns returns-2)
+    (tie.spec (search needs) (search needs) (search needs) (search needs) (search needs) (search needs) sub-result
+    returns returns-2)

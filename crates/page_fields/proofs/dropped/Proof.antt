@@ -4,9 +4,9 @@ use mathlib.Core.Path.{_≡_, refl}
 use native.Mathlib.Numerals.{add-one}
 use native.Mathlib.Omega.{arith}
 use borrow.Author.Needs.{needs}
-use Rattle.page.specs.Worksheet.{dropped}
-use Rattle.page.proofs.dropped.Statement.{statement}
-use Rattle.page.proofs.dropped.Tie as tie
+use Rattle.page_fields.specs.Fields.{dropped}
+use Rattle.page_fields.proofs.dropped.Statement.{statement}
+use Rattle.page_fields.proofs.dropped.Tie as tie
 
 abbrev Inv-loop : tie.InvT-loop
 Inv-loop number digits left₀ i₀ left i = (i ≤ digits) × (left ≡ dropped number i)

@@ -1,10 +1,11 @@
+-- The point parts the digits after it from those before it.
 use mathlib.Core.Logic.{⊎-elim}
 use native.Mathlib.Omega.{arith}
 use borrow.Author.Needs.{needs}
 use borrow.Author.Tests.{ltb-false, eq-eqb, ne-eqb}
-use Rattle.page.specs.Worksheet.{numberByte}
-use Rattle.page.proofs.number_byte.Statement.{statement}
-use Rattle.page.proofs.number_byte.Tie as tie
+use Rattle.page_fields.specs.Fields.{numberByte}
+use Rattle.page_fields.proofs.number_byte.Statement.{statement}
+use Rattle.page_fields.proofs.number_byte.Tie as tie
 
 returns : tie.Need-returns
 unfolding numberByte

@@ -1,9 +1,10 @@
+-- By the unit, in the order of the definition; then what each call promises.
 use mathlib.Core.Logic.{⊎-elim}
 use borrow.Author.Needs.{needs}
 use borrow.Author.Tests.{eq-eqb, ne-eqb}
-use Rattle.page.specs.Worksheet.{shown}
-use Rattle.page.proofs.shown.Statement.{statement}
-use Rattle.page.proofs.shown.Tie as tie
+use Rattle.page_fields.specs.Fields.{shown}
+use Rattle.page_fields.proofs.shown.Statement.{statement}
+use Rattle.page_fields.proofs.shown.Tie as tie
 
 returns : tie.Need-returns
 unfolding shown
@@ -23,7 +24,7 @@ returns-3 c =
 returns-4 : tie.Need-returns-4
 unfolding shown
 returns-4 c =
-    let timed = c .before .before .before in
+    let timed = c .before .before in
     rw (
       c .field-text2 .ensures,
       ne-eqb _ _ (timed .before .before .if1 .left),
@@ -42,7 +43,7 @@ returns-5 c =
       ne-eqb _ _ (last .before .before .if1 .left),
       ne-eqb _ _ (last .before .if2 .left),
     )
-    (⊎-elim (λ w. rw (eq-eqb _ _ (w .0 .taken), w .2 .left)) (λ w. rw (ne-eqb _ _ (w .left))) (last .if4 .came))
+    (⊎-elim (λ w. rw (eq-eqb _ _ (w .0 .taken), w .1 .left)) (λ w. rw (ne-eqb _ _ (w .left))) (last .if4 .came))
 
 pub shown-spec : {M : Type 1} → statement M
 shown-spec =

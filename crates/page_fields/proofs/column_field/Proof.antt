@@ -1,8 +1,8 @@
 use native.Mathlib.Omega.{arith}
 use borrow.Author.Needs.{needs}
 use borrow.Author.Tests.{ne-eqb}
-use Rattle.page.proofs.column_field.Statement.{statement}
-use Rattle.page.proofs.column_field.Tie as tie
+use Rattle.page_fields.proofs.column_field.Statement.{statement}
+use Rattle.page_fields.proofs.column_field.Tie as tie
 
 returns : tie.Need-returns
 returns c = (rw (c .match .keys1), omega arith)

@@ -1,6 +1,6 @@
 use borrow.Author.Tests.{ne-eqb}
-use Rattle.page.proofs.decimals_of.Statement.{statement}
-use Rattle.page.proofs.decimals_of.Tie as tie
+use Rattle.page_fields.proofs.decimals_of.Statement.{statement}
+use Rattle.page_fields.proofs.decimals_of.Tie as tie
 
 returns-4 : tie.Need-returns-4
 returns-4 c =

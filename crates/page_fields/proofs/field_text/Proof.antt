@@ -1,9 +1,9 @@
 use mathlib.Core.Path.{refl}
 use borrow.Author.Needs.{needs}
 use Rattle.text.specs.Text.{ascii, joined}
-use Rattle.page.specs.Worksheet.{fields}
-use Rattle.page.proofs.field_text.Statement.{statement}
-use Rattle.page.proofs.field_text.Tie as tie
+use Rattle.page_fields.specs.Fields.{fields}
+use Rattle.page_fields.proofs.field_text.Statement.{statement}
+use Rattle.page_fields.proofs.field_text.Tie as tie
 
 returns : tie.Need-returns
 unfolding fields joined ascii

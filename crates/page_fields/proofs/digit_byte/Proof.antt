@@ -1,9 +1,9 @@
 use mathlib.Core.Logic.{⊎-elim}
 use borrow.Author.Needs.{needs}
 use borrow.Author.Tests.{lt-ltb, le-ltb}
-use Rattle.page.specs.Worksheet.{digitByte}
-use Rattle.page.proofs.digit_byte.Statement.{statement}
-use Rattle.page.proofs.digit_byte.Tie as tie
+use Rattle.page_fields.specs.Fields.{digitByte}
+use Rattle.page_fields.proofs.digit_byte.Statement.{statement}
+use Rattle.page_fields.proofs.digit_byte.Tie as tie
 
 returns : tie.Need-returns
 unfolding digitByte

@@ -4,12 +4,13 @@ use Prim.Native.Nat.{ℕ, _-_}
 use mathlib.Core.List.{List}
 use Rattle.lists.specs.Lists.{table}
 use Rattle.text.specs.Text.{ascii, joined}
-use Rattle.procedure.specs.Lines.{BLANK}
-use Rattle.page.specs.Worksheet.{fieldWidth, dropped, digitByte, numberByte, seconds, factor, percent, letter, pick, fields, shown, space}
+use Rattle.layout.specs.Sheet.{BLANK}
+use Rattle.page_fields.specs.Fields.{fieldWidth, lastPlace, space, dropped, digitByte, numberByte, fields, shown}
+use Rattle.page_fields.specs.Fields.{seconds, factor, percent, letter, pick}
 
 -- a whole field, from left to right
 unfoldable pub field : ℕ → ℕ → List ℕ
-field unit value = table (λ i. shown unit value (10 - i)) fieldWidth
+field unit value = table (λ i. shown unit value (lastPlace - i)) fieldWidth
 
 pub record Fields : Type 0 where
   pub time : field seconds 45_732 ≡ ascii "     45.732"

@@ -1,0 +1,8 @@
+-- Bounds that only inner contracts and proofs lean on.
+use Prim.Native.Nat.{ℕ, _+_, _*_}
+use Rattle.layout.specs.Sheet.{sheetCount}
+use Rattle.page.specs.Worksheet.{rowWidth}
+
+-- room for the heading and a row for each cell
+abbrev pub changeBytes : ℕ
+changeBytes = rowWidth * (sheetCount + 1)
