@@ -1,4 +1,2 @@
 pub mod Laws
 pub mod Written
-pub mod RoundTrip
-pub mod LongFile
