@@ -1,3 +1,1 @@
-pub mod Format
 pub mod Study
-pub mod Working

@@ -3,8 +3,8 @@ use Prim.Native.Nat.{ℕ}
 use mathlib.Core.List.{List, [], _∷_}
 use Rattle.layout.specs.Entries.{entryCount}
 use Rattle.answers.specs.declared.Answer.{Answer}
-use Rattle.study.specs.declared.Format.{Format}
-use Rattle.study.specs.Format as format
+use Rattle.study_format.specs.declared.Format.{Format}
+use Rattle.study_format.specs.Format as format
 
 -- "the four bytes "ICUS" open the file, then k (0–180), .. blocks of 81 entries"
 abbrev pub icus : Format
