@@ -92,3 +92,10 @@ unfolding inTurn
 all-accepted check i zero each = refl
 all-accepted check i (suc n) each =
     go-on _ (each i (omega arith) (omega arith)) ∙ all-accepted check (suc i) n (λ j from to. each j (omega arith) (omega arith))
+
+-- and checks that answer the same, answer the same in turn
+pub same-in-turn : (check other : ℕ → Answer) (i n : ℕ) → ((j : ℕ) → i ≤ j → j < i + n → check j ≡ other j) → inTurn check i n ≡ inTurn other i n
+unfolding inTurn
+same-in-turn check other i zero each = refl
+same-in-turn check other i (suc n) each =
+    rw (each i (omega arith) (omega arith), same-in-turn check other (suc i) n (λ j from to. each j (omega arith) (omega arith)))

@@ -1,7 +1,7 @@
 -- Laws of a file's judgement: of a field, of a format's places, and what a file has that is accepted.
 use Prim.Native.Nat.{ℕ, suc, _+_, _*_, _-_, _<_, _≤_, _^_}
 use mathlib.Core.Path.{_≡_, sym, _∙_}
-use mathlib.Core.Bool.{Bool, true, false, cond, not}
+use mathlib.Core.Bool.{Bool, true, false, _&&_, not}
 use mathlib.Core.List.{List}
 use lib.ListN.{length, getD, drop, length-drop, drop-of-length-le}
 use lib.Seq.{drop-cons, length-take-le}
@@ -27,7 +27,7 @@ use Rattle.study_format.specs.Working.{Modest}
 module _ (file bytes : List ℕ) (i : ℕ) where
   pub starts-step : i < length file → i < length bytes
       → startsWith (drop i file) (drop i bytes)
-      ≡ cond (eqb (getD file i 0) (getD bytes i 0)) (startsWith (drop (i + 1) file) (drop (i + 1) bytes)) false
+      ≡ (eqb (getD file i 0) (getD bytes i 0) && startsWith (drop (i + 1) file) (drop (i + 1) bytes))
   unfolding startsWith
   starts-step hf hb = rw (add-one i, drop-cons file i 0 hf, drop-cons bytes i 0 hb)
 
@@ -50,16 +50,20 @@ module _ (file : List ℕ) (at : ℕ) (wrong : Bool) where
   field-right h e = go-on _ (accepts File (length file) (le-ltb (length file) (at + numberBytes) h)) ∙ accepts File at e
 
 module _ (f : Format) where
-  -- every place in a file that has no more sites than the most is a number
-  pub places-fit : {k j : ℕ} → Modest f → k ≤ f .most → j ≤ k → blockPlace f k j < numberLimit
-  places-fit {k} {j} ok few below = omega (arith, mul-le-mul-left {m = j} {n = f .most} (blockBytes f) (omega arith), ok .fits)
+  -- no place in a file is past the end of the largest one
+  pub within-largest : (k j : ℕ) → k ≤ f .most → j ≤ k → blockPlace f k j ≤ fileBytes f (f .most)
+  within-largest k j few below = omega (arith, mul-le-mul-left {m = j} {n = f .most} (blockBytes f) (omega arith))
+
+  -- so that it is a number that a file can hold
+  pub places-fit : (k j : ℕ) → Modest f → k ≤ f .most → j ≤ k → blockPlace f k j < numberLimit
+  places-fit k j ok few below = omega (arith, within-largest k j few below, ok .fits)
 
   pub block-fits : Modest f → blockBytes f + offsetPlace 1 < numberLimit
   block-fits ok = omega (arith, mul-le-mul-left {m = 1} {n = f .most} (blockBytes f) (ok .sites), ok .fits)
 
   -- the sums that lead to a place fit 64 bits, for any number of sites
-  pub sums-fit : {k j : ℕ} → Modest f → k < numberLimit → j ≤ k → blockPlace f k j < 2 ^ 64
-  sums-fit {k} {j} ok few below =
+  pub sums-fit : (k j : ℕ) → Modest f → k < numberLimit → j ≤ k → blockPlace f k j < 2 ^ 64
+  sums-fit k j ok few below =
       let small : blockBytes f + numberBytes ≤ numberLimit - offsetsPlace = omega (arith, block-fits ok) in
       omega (arith, mul-le-mul-left {m = j} {n = k} (blockBytes f) below, mul-le-mul {n₁ = blockBytes f + numberBytes} {m₁ = suc k} small few)
 

@@ -1,7 +1,7 @@
 -- "Study file and listing", of any format: what any bytes are as a study file, what is read of one and what is written.
 use Prim.Native.Nat.{ℕ, zero, suc, _+_, _*_, _/_, _%_}
 use mathlib.Core.List.{List, [], _∷_, _++_}
-use mathlib.Core.Bool.{Bool, true, false, cond, not}
+use mathlib.Core.Bool.{Bool, true, false, _&&_, not}
 use lib.ListN.{length, take, drop}
 use lib.Dec.{ltb, leb, eqb}
 use Rattle.lists.specs.Lists.{table}
@@ -30,7 +30,7 @@ offsetPlace j = offsetsPlace + numberBytes * j
 unfoldable pub startsWith : List ℕ → List ℕ → Bool
 startsWith file [] = true
 startsWith [] (byte ∷ bytes) = false
-startsWith (first ∷ file) (byte ∷ bytes) = cond (eqb first byte) (startsWith file bytes) false
+startsWith (first ∷ file) (byte ∷ bytes) = eqb first byte && startsWith file bytes
 
 -- "the file's length if it is short, a field cut short included"
 abbrev pub whole : List ℕ → ℕ → Answer

@@ -28,7 +28,7 @@ cast-write : tie.Need-cast-write Inv-loop μ-loop
 cast-write c =
     let turn = c .before .before .before in
     let start = turn .before .before in
-    let small = places-fit (start .args .format) {k = start .args .sites} {j = turn .loop .placed} (start .pre .0) (start .pre .1) (omega arith) in
+    let small = places-fit (start .args .format) (start .args .sites) (turn .loop .placed) (start .pre .0) (start .pre .1) (omega arith) in
     omega (arith, c .block-place .ensures, small)
 
 loop-again : tie.Need-loop-again Inv-loop μ-loop

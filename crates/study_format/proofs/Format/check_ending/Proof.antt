@@ -12,12 +12,12 @@ use Rattle.study_format.proofs.Format.check_ending.Tie as tie
 block-place-requires : tie.Need-block-place-requires
 block-place-requires c κs =
     let start = c .before in
-    (start .pre .0, omega (arith, places-fit (start .args .self) {j = 0} (start .pre .0) (start .pre .1) (omega arith)), omega arith)
+    (start .pre .0, omega (arith, places-fit (start .args .self) (start .args .sites) 0 (start .pre .0) (start .pre .1) (omega arith)), omega arith)
 
 refused-requires : tie.Need-refused-requires
 refused-requires c κs =
     let start = c .before .before .before in
-    omega (arith, places-fit (start .args .self) {j = start .args .sites} (start .pre .0) (start .pre .1) (omega arith))
+    omega (arith, places-fit (start .args .self) (start .args .sites) (start .args .sites) (start .pre .0) (start .pre .1) (omega arith))
 
 returns : tie.Need-returns
 returns c = c .refused .ensures ∙ simp (← c .before .before .block-place .ensures, lt-ltb _ _ (c .before .if1 .taken))
@@ -25,7 +25,7 @@ returns c = c .refused .ensures ∙ simp (← c .before .before .block-place .en
 refused-requires-2 : tie.Need-refused-requires-2
 refused-requires-2 c κs =
     let start = c .before .before .before .before in
-    omega (arith, places-fit (start .args .self) {j = start .args .sites} (start .pre .0) (start .pre .1) (omega arith))
+    omega (arith, places-fit (start .args .self) (start .args .sites) (start .args .sites) (start .pre .0) (start .pre .1) (omega arith))
 
 returns-2 : tie.Need-returns-2
 returns-2 c =
