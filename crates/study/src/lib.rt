@@ -25,14 +25,15 @@ pub const MOST_SITES: usize = ICUS.most;
 
 pub const MOST_ENTRIES: usize = ICUS.entries * MOST_SITES;
 
-pub const MOST_BYTES: usize = study_format::OFFSETS_PLACE + NUMBER_BYTES * MOST_SITES + BLOCK_BYTES * MOST_SITES;
+pub const MOST_BYTES: usize = study_format::OFFSETS_PLACE
+    + NUMBER_BYTES * MOST_SITES
+    + BLOCK_BYTES * MOST_SITES;
 
 // How long the study file of that many sites is.
 pub fn file_bytes(sites: u32) -> usize
     ensures { λ r. ⌜ r ≡ fileBytes sites ⌝ }
 {
-    let sites = sites as usize;
-    ICUS.block_place(sites, sites)
+    ICUS.file_bytes(sites as usize)
 }
 
 // Judges any bytes, of any length, as a study file.

@@ -8,7 +8,7 @@ ghost use lib.ListN.{length};
 ghost use Rattle.study_numbers.specs.Numbers.{numberBytes, numberLimit};
 ghost use Rattle.answers.specs.declared.Refusal.the-variants.{File};
 ghost use Rattle.answers.specs.declared.Answer.the-variants.{Refused};
-ghost use Rattle.study_format.specs.Format.{offsetsPlace, sitesOf, startsWith, whole, blockBytes, blockPlace};
+ghost use Rattle.study_format.specs.Format.{offsetsPlace, sitesOf, startsWith, whole, blockBytes, blockPlace, fileBytes};
 ghost use Rattle.study_format.specs.Format.{openingField, countField, offsetField, offsetFields, ending, judgement};
 ghost use Rattle.study_format.specs.Working.{Modest};
 use answers::Answer;
@@ -67,12 +67,20 @@ impl Format {
         NUMBER_BYTES * self.entries
     }
 
-    // The offset of a site's block; the file ends where one block more would start.
+    // The offset of a site's block.
     pub fn block_place(self, sites: usize, site: usize) -> usize
         requires { ⌜ Modest self × (sites < numberLimit) × (site ≤ sites) ⌝ }
         ensures { λ r. ⌜ r ≡ blockPlace self sites site ⌝ }
     {
         OFFSETS_PLACE + NUMBER_BYTES * sites + NUMBER_BYTES * self.entries * site
+    }
+
+    // A file ends where one block more would start.
+    pub fn file_bytes(self, sites: usize) -> usize
+        requires { ⌜ Modest self × (sites < numberLimit) ⌝ }
+        ensures { λ r. ⌜ r ≡ fileBytes self sites ⌝ }
+    {
+        self.block_place(sites, sites)
     }
 
     fn opens(self, file: &[u8]) -> bool
@@ -152,7 +160,7 @@ impl Format {
         requires { ⌜ Modest self × (sites ≤ self .most) ⌝ }
         ensures { λ r. ⌜ r ≡ ending self (now (file .entry)) sites ⌝ }
     {
-        let end = self.block_place(sites, sites);
+        let end = self.file_bytes(sites);
         let length = file.len();
         if length < end {
             return refused(length);

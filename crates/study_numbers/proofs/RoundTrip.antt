@@ -7,7 +7,7 @@ use lib.Seq.{getD-append-add, getD-take, getD-drop, drop-cons, take-add}
 use native.Mathlib.Nat.{add-assoc, le-of-suc-le-suc}
 use native.Mathlib.Omega.{arith}
 use Rattle.lists.specs.Lists.{AllBelow, table}
-use Rattle.study_numbers.specs.Numbers.{numberBytes, numberLimit, numberAt, bytesOf, numbersIn, packed}
+use Rattle.study_numbers.specs.Numbers.{numberBytes, numberLimit, byteLimit, numberAt, bytesOf, numbersIn, packed}
 use Rattle.study_numbers.proofs.Laws.{length-bytesOf, packed-append, packed-one}
 
 -- a number past the front of a list, in a list's front, and in what is left past a place
@@ -56,7 +56,8 @@ first-number number rest h =
     let top : number / 16777216 % 256 ≡ number / 16777216 = omega arith in
     rw top (omega arith)
 
-pub number-packed : (numbers : List ℕ) (i : ℕ) → i < length numbers → getD numbers i 0 < numberLimit → numberAt (packed numbers) (numberBytes * i) ≡ getD numbers i 0
+pub number-packed : (numbers : List ℕ) (i : ℕ) → i < length numbers → getD numbers i 0 < numberLimit
+    → numberAt (packed numbers) (numberBytes * i) ≡ getD numbers i 0
 unfolding packed
 number-packed [] i h fits = absurd (omega arith)
 number-packed (number ∷ numbers) zero h fits = first-number number (packed numbers) fits
@@ -98,13 +99,13 @@ four-bytes list at h =
       drop-cons list (suc (suc (suc at))) 0 (omega arith),
     )
 
-bytes-of-number : (list : List ℕ) (at : ℕ) → AllBelow 256 list → at + numberBytes ≤ length list → bytesOf (numberAt list at) ≡ take numberBytes (drop at list)
+bytes-of-number : (list : List ℕ) (at : ℕ) → AllBelow byteLimit list → at + numberBytes ≤ length list → bytesOf (numberAt list at) ≡ take numberBytes (drop at list)
 bytes-of-number list at small h =
     bytes-of-four (getD list at 0) (getD list (at + 1) 0) (getD list (at + 2) 0) (getD list (at + 3) 0) (small at) (small (at + 1)) (small (at + 2))
     (small (at + 3))
     ∙ sym (four-bytes list at h)
 
-pub packed-numbers : (list : List ℕ) (n : ℕ) → AllBelow 256 list → numberBytes * n ≤ length list → packed (numbersIn list n) ≡ take (numberBytes * n) list
+pub packed-numbers : (list : List ℕ) (n : ℕ) → AllBelow byteLimit list → numberBytes * n ≤ length list → packed (numbersIn list n) ≡ take (numberBytes * n) list
 unfolding table packed
 packed-numbers list zero small h = refl
 packed-numbers list (suc n) small h =

@@ -11,6 +11,9 @@ numberBytes = 4
 abbrev pub numberLimit : ℕ
 numberLimit = 2 ^ 32
 
+abbrev pub byteLimit : ℕ
+byteLimit = 256
+
 -- the number whose four bytes stand at a place
 abbrev pub numberAt : List ℕ → ℕ → ℕ
 numberAt bytes at = getD bytes at 0 + 256 * getD bytes (at + 1) 0 + 65536 * getD bytes (at + 2) 0 + 16777216 * getD bytes (at + 3) 0

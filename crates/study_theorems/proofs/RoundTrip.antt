@@ -12,7 +12,7 @@ use native.Mathlib.Omega.{arith}
 use Rattle.lists.specs.Lists.{AllBelow, table, over}
 use Rattle.lists.proofs.Laws.{length-table, table-at, table-join, table-same, front-over}
 use Rattle.lists.proofs.Tests.{both-true}
-use Rattle.study_numbers.specs.Numbers.{numberBytes, numberLimit, numberAt, numbersIn, packed}
+use Rattle.study_numbers.specs.Numbers.{numberBytes, numberLimit, byteLimit, numberAt, numbersIn, packed}
 use Rattle.study_numbers.proofs.Laws.{length-packed}
 use Rattle.study_numbers.proofs.RoundTrip.{number-past, number-take, number-drop, number-packed, packed-numbers}
 use Rattle.answers.specs.Answers.{_then_, refuse-if}
@@ -219,7 +219,8 @@ module _ (f : Format) (bytes : List ℕ) (laid : WellLaidOut f bytes) where
       rw (e, entries-are n, here) (sym (table-join number (size * n) size))
 
   -- the numbers past the opening are those that the writer packs
-  fields-are : fields f (sitesOf bytes) (entriesUpTo f bytes (sitesOf bytes)) ≡ numbersIn (drop countPlace bytes) (1 + sitesOf bytes + f .entries * sitesOf bytes)
+  fields-are : fields f (sitesOf bytes) (entriesUpTo f bytes (sitesOf bytes))
+      ≡ numbersIn (drop countPlace bytes) (1 + sitesOf bytes + f .entries * sitesOf bytes)
   fields-are =
       let k = sitesOf bytes in
       let all = f .entries * k in
@@ -247,7 +248,7 @@ module _ (f : Format) (bytes : List ℕ) (laid : WellLaidOut f bytes) where
       )
 
 -- a good file of bytes, read and written, is the same bytes
-pub read-written : (f : Format) → Modest f → (bytes : List ℕ) → AllBelow 256 bytes → judgement f bytes ≡ Accepted
+pub read-written : (f : Format) → Modest f → (bytes : List ℕ) → AllBelow byteLimit bytes → judgement f bytes ≡ Accepted
     → fileOf f (entriesUpTo f bytes (countOf f bytes)) ≡ bytes
 unfolding fileOf
 read-written f ok bytes small e =
@@ -257,8 +258,8 @@ read-written f ok bytes small e =
     let rest = drop countPlace bytes in
     let l : length (entriesUpTo f bytes k) ≡ f .entries * k = ap length (entries-are f bytes laid k) ∙ length-table _ (f .entries * k) in
     let long : length rest ≡ numberBytes * n = length-drop countPlace bytes ∙ omega (arith, laid .size) in
-    let low : AllBelow 256 rest = λ i. rw (getD-drop countPlace bytes i 0) (small (countPlace + i)) in
+    let low : AllBelow byteLimit rest = λ i. rw (getD-drop countPlace bytes i 0) (small (countPlace + i)) in
     let back = packed-numbers rest n low (omega (arith, long)) ∙ take-all (numberBytes * n) rest (omega (arith, long)) in
     let opened : take countPlace bytes ≡ f .opening = rw (ok .opens) at (starts-with bytes (f .opening) (laid .opened)) in
-    simp e
-    (rw (sites-in f ok (entriesUpTo f bytes k) k l, fields-are f bytes laid, back) (ap (λ front. front ++ rest) (sym opened) ∙ take-append-drop countPlace bytes))
+    let k-sites = sites-in f ok (entriesUpTo f bytes k) k l in
+    simp e (rw (k-sites, fields-are f bytes laid, back) (ap (λ front. front ++ rest) (sym opened) ∙ take-append-drop countPlace bytes))

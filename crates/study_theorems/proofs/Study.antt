@@ -5,7 +5,7 @@ use mathlib.Core.List.{List}
 use lib.ListN.{length, take}
 use native.Mathlib.Omega.{arith}
 use Rattle.lists.specs.Lists.{AllBelow, over}
-use Rattle.study_numbers.specs.Numbers.{numberLimit}
+use Rattle.study_numbers.specs.Numbers.{numberLimit, byteLimit}
 use Rattle.answers.specs.declared.Answer.the-variants.{Accepted}
 use Rattle.study_format.specs.Working.{Modest}
 use Rattle.study.specs.Study.{icus, fileBytes, judgement, countOf, entriesUpTo, sitesIn, writeAnswer, fileOf}
@@ -22,7 +22,7 @@ pub written-read : (entries area : List ℕ) → AllBelow numberLimit entries �
     → ReadBack entries (take (fileBytes (sitesIn entries)) (over area 0 (fileOf entries)))
 written-read = round.written-read icus modest
 
-pub read-written : (bytes : List ℕ) → AllBelow 256 bytes → judgement bytes ≡ Accepted → fileOf (entriesUpTo bytes (countOf bytes)) ≡ bytes
+pub read-written : (bytes : List ℕ) → AllBelow byteLimit bytes → judgement bytes ≡ Accepted → fileOf (entriesUpTo bytes (countOf bytes)) ≡ bytes
 read-written = round.read-written icus modest
 
 -- how many bytes decide any study file: 59,049

@@ -42,7 +42,7 @@ pub fn write(format: Format, entries: &[u32], out: &mut [u8]) -> Answer
     if format.most < sites {
         return study_format::refused(0);
     }
-    if out.len() < format.block_place(sites, sites) {
+    if out.len() < format.file_bytes(sites) {
         return study_format::refused(study_format::ROOM_PLACE);
     }
     let opening = format.opening;

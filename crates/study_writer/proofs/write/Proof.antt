@@ -21,7 +21,7 @@ returns-3 c =
     let place = c .before .before in
     let sized = eq-eqb _ _ (place .before .before .before .before .if1 .left) in
     let few = le-ltb _ _ (place .before .if2 .left) in
-    let short = lt-ltb _ _ (rw (place .block-place .ensures) at (c .before .if3 .taken)) in
+    let short = lt-ltb _ _ (rw (place .file-bytes .ensures) at (c .before .if3 .taken)) in
     (c .refused2 .ensures ∙ simp (sized, few, short), simp (sized, few, short))
 
 write-all-requires : tie.Need-write-all-requires
@@ -32,7 +32,8 @@ write-all-requires c κs =
     let last = opened .before .before .before .before in
     let sized = last .before .before .before .before .before in
     let args = sized .before .before .before .before .args in
-    omega (arith, c .block-place2 .ensures, last .if3 .left, last .before .block-place .ensures, whole-sites (args .format) (args .entries .now) (sized .if1 .left))
+    let whole = whole-sites (args .format) (args .entries .now) (sized .if1 .left) in
+    omega (arith, c .block-place .ensures, last .if3 .left, last .before .file-bytes .ensures, whole)
 
 returns-4 : tie.Need-returns-4
 returns-4 c =
@@ -47,12 +48,12 @@ returns-4 c =
     let start = size .before .before .before .before in
     let sized = eq-eqb _ _ (size .if1 .left) in
     let few = le-ltb _ _ (limit .if2 .left) in
-    let room = rw (place .block-place .ensures) at (last .if3 .left) in
-    let fits = le-ltb _ _ room in (
+    let room = rw (place .file-bytes .ensures) at (last .if3 .left) in
+    let fits = le-ltb _ _ room in
+    let whole = written (start .args .format) (start .args .entries .now) (start .args .out .now) (start .pre) (size .if1 .left) room in
+    let blocks = rw (all .before .block-place .ensures) at (all .write-all .ensures) in (
       simp (sized, few, fits),
-      simp (sized, few, fits)
-          (written (start .args .format) (start .args .entries .now) (start .args .out .now) (start .pre) (size .if1 .left) room (opened .put-bytes .ensures .is)
-          (count .write .ensures) (offsets .put-offsets .ensures) (rw (all .before .block-place2 .ensures) at (all .write-all .ensures))),
+      simp (sized, few, fits) (whole (opened .put-bytes .ensures .is) (count .write .ensures) (offsets .put-offsets .ensures) blocks),
     )
 
 pub write-spec : {M : Type 1} → statement M

@@ -9,10 +9,10 @@ mul-result-2 : tie.Need-mul-result-2
 mul-result-2 c = omega (arith, block-fits (c .before .args .self) (c .before .pre .0))
 
 mul-result-3 : tie.Need-mul-result-3
-mul-result-3 c = let start = c .before in omega (arith, sums-fit (start .args .self) (start .args .sites) (start .args .site) (start .pre .0) (start .pre .1) (start .pre .2))
+mul-result-3 c = let start = c .before in omega (arith, sums-fit (start .args .self) _ _ (start .pre .0) (start .pre .1) (start .pre .2))
 
 add-result-2 : tie.Need-add-result-2
-add-result-2 c = let start = c .before in omega (arith, sums-fit (start .args .self) (start .args .sites) (start .args .site) (start .pre .0) (start .pre .1) (start .pre .2))
+add-result-2 c = let start = c .before in omega (arith, sums-fit (start .args .self) _ _ (start .pre .0) (start .pre .1) (start .pre .2))
 
 pub block-place-spec : {M : Type 1} → statement M
 block-place-spec =

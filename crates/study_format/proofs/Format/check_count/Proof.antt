@@ -12,7 +12,9 @@ returns : tie.Need-returns
 returns c = handed-on _ (c .before .before .check-whole .ensures) (c .enum-told2 .given .1)
 
 sites-of-requires : tie.Need-sites-of-requires
-sites-of-requires c κs = field-fits (c .before .before .before .before .args .file .now) countPlace (c .before .before .check-whole .ensures) (c .enum-told .given .1)
+sites-of-requires c κs =
+    let call = c .before .before in
+    field-fits (call .before .before .args .file .now) countPlace (call .check-whole .ensures) (c .enum-told .given .1)
 
 returns-2 : tie.Need-returns-2
 returns-2 c =

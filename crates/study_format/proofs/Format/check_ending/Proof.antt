@@ -9,10 +9,10 @@ use borrow.Author.Needs.{needs}
 use Rattle.study_format.proofs.Format.check_ending.Statement.{statement}
 use Rattle.study_format.proofs.Format.check_ending.Tie as tie
 
-block-place-requires : tie.Need-block-place-requires
-block-place-requires c κs =
+file-bytes-requires : tie.Need-file-bytes-requires
+file-bytes-requires c κs =
     let start = c .before in
-    (start .pre .0, omega (arith, places-fit (start .args .self) (start .args .sites) 0 (start .pre .0) (start .pre .1) (omega arith)), omega arith)
+    (start .pre .0, omega (arith, places-fit (start .args .self) (start .args .sites) 0 (start .pre .0) (start .pre .1) (omega arith)))
 
 refused-requires : tie.Need-refused-requires
 refused-requires c κs =
@@ -20,7 +20,7 @@ refused-requires c κs =
     omega (arith, places-fit (start .args .self) (start .args .sites) (start .args .sites) (start .pre .0) (start .pre .1) (omega arith))
 
 returns : tie.Need-returns
-returns c = c .refused .ensures ∙ simp (← c .before .before .block-place .ensures, lt-ltb _ _ (c .before .if1 .taken))
+returns c = c .refused .ensures ∙ simp (← c .before .before .file-bytes .ensures, lt-ltb _ _ (c .before .if1 .taken))
 
 refused-requires-2 : tie.Need-refused-requires-2
 refused-requires-2 c κs =
@@ -33,7 +33,7 @@ returns-2 c =
     let args = call .before .before .args in
     let end = fileBytes (args .self) (args .sites) in
     let size = length (args .file .now) in
-    c .refused2 .ensures ∙ simp (call .block-place .ensures, le-ltb size end (omega arith), lt-ltb end size (omega arith))
+    c .refused2 .ensures ∙ simp (call .file-bytes .ensures, le-ltb size end (omega arith), lt-ltb end size (omega arith))
 
 returns-3 : tie.Need-returns-3
 returns-3 c =
@@ -43,4 +43,4 @@ returns-3 c =
     simp (le-ltb size end (omega arith), le-ltb end size (omega arith))
 
 pub check-ending-spec : {M : Type 1} → statement M
-check-ending-spec = tie.close (tie.spec block-place-requires refused-requires returns refused-requires-2 returns-2 returns-3)
+check-ending-spec = tie.close (tie.spec file-bytes-requires refused-requires returns refused-requires-2 returns-2 returns-3)
