@@ -1,4 +1,4 @@
-// Study files: "ICUS", the number of sites, an offset for each site, a block of entries for each site.
+// Study files: the calls of study_format, study_reader and study_writer for the one format that there is.
 ghost use mathlib.Core.Path.{_≡_};
 ghost use mathlib.Core.List.{[]};
 ghost use Prim.Native.Nat.{_≤_};
@@ -11,7 +11,8 @@ use answers::Answer;
 use study_format::Format;
 use study_numbers::NUMBER_BYTES;
 
-const ICUS: Format = Format {
+// The format of the study files, of at most 180 sites by the rules.
+pub const ICUS: Format = Format {
     opening: *b"ICUS",
     entries: layout::ENTRIES,
     most: 180,

@@ -1,5 +1,5 @@
--- What a format must be for its places to be numbers that a file can hold.
-use Prim.Native.Nat.{ℕ, _<_}
+-- What a format must be for the code to serve it: an opening as long as a number, and a largest file whose end is a u32.
+use Prim.Native.Nat.{_<_}
 use mathlib.Core.Path.{_≡_}
 use lib.ListN.{length}
 use Rattle.study_numbers.specs.Numbers.{numberBytes, numberLimit}

@@ -1,5 +1,4 @@
 -- `study_reader::site`. The part is the site's block, and empty on a refusal.
-use Rattle.answers.proofs.Laws.{kept, renewed}
 use native.Mathlib.Nat.{add-sub-cancel-left}
 use mathlib.Core.Path.{sym, _∙_}
 use borrow.Author.Needs.{needs}

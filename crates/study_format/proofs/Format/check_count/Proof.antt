@@ -3,7 +3,7 @@ use Rattle.study_format.proofs.Laws.{field-fits}
 use Rattle.study_format.specs.Format.{countPlace}
 use Rattle.answers.proofs.Laws.{handed-on, passed}
 use borrow.Author.Tests.{lt-ltb, le-ltb}
-use mathlib.Core.Path.{sym, _∙_}
+use mathlib.Core.Path.{_∙_}
 use borrow.Author.Needs.{needs}
 use Rattle.study_format.proofs.Format.check_count.Statement.{statement}
 use Rattle.study_format.proofs.Format.check_count.Tie as tie

@@ -5,7 +5,6 @@ use lib.ListN.{length}
 use native.Mathlib.Omega.{arith}
 use mathlib.Core.Path.{_∙_}
 use borrow.Author.Tests.{lt-ltb, le-ltb}
-use borrow.Author.Needs.{needs}
 use Rattle.study_format.proofs.Format.check_ending.Statement.{statement}
 use Rattle.study_format.proofs.Format.check_ending.Tie as tie
 
