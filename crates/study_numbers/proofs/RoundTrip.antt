@@ -99,13 +99,15 @@ four-bytes list at h =
       drop-cons list (suc (suc (suc at))) 0 (omega arith),
     )
 
-bytes-of-number : (list : List ℕ) (at : ℕ) → AllBelow byteLimit list → at + numberBytes ≤ length list → bytesOf (numberAt list at) ≡ take numberBytes (drop at list)
+bytes-of-number : (list : List ℕ) (at : ℕ) → AllBelow byteLimit list → at + numberBytes ≤ length list
+    → bytesOf (numberAt list at) ≡ take numberBytes (drop at list)
 bytes-of-number list at small h =
     bytes-of-four (getD list at 0) (getD list (at + 1) 0) (getD list (at + 2) 0) (getD list (at + 3) 0) (small at) (small (at + 1)) (small (at + 2))
     (small (at + 3))
     ∙ sym (four-bytes list at h)
 
-pub packed-numbers : (list : List ℕ) (n : ℕ) → AllBelow byteLimit list → numberBytes * n ≤ length list → packed (numbersIn list n) ≡ take (numberBytes * n) list
+pub packed-numbers : (list : List ℕ) (n : ℕ) → AllBelow byteLimit list → numberBytes * n ≤ length list
+    → packed (numbersIn list n) ≡ take (numberBytes * n) list
 unfolding table packed
 packed-numbers list zero small h = refl
 packed-numbers list (suc n) small h =
