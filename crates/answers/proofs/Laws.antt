@@ -1,11 +1,11 @@
--- Laws of answers: how checks that follow one another answer, and what a search for the lowest fault finds.
+-- Laws of answers: how checks that follow one another answer, and what checks in turn find.
 use mathlib.Core.Path.{_≡_, refl, _∙_, sym}
 use mathlib.Core.Bool.{Bool, true, false, cond}
 use Prim.Native.Nat.{ℕ, zero, suc, _+_, _-_, _≤_, _<_}
-use native.Mathlib.Nat.{add-zero, add-suc, suc-add, sub-zero, zero-add, le-of-suc-le-suc, not-suc-le-zero}
+use native.Mathlib.Nat.{add-zero, add-suc, suc-add, sub-zero, le-of-suc-le-suc, not-suc-le-zero}
 use native.Mathlib.Numerals.{add-one}
 use native.Mathlib.Omega.{arith}
-use Rattle.answers.specs.Answers.{_then_, refuse-if, lowest, left-by}
+use Rattle.answers.specs.Answers.{_then_, refuse-if, inTurn, left-by}
 use Rattle.answers.specs.declared.Refusal.{Refusal}
 use Rattle.answers.specs.declared.Answer.{Answer}
 use Rattle.answers.specs.declared.Answer.the-variants.{Accepted, Refused}
@@ -42,39 +42,60 @@ pub not-refused : (bad : Bool) (why : Refusal) (place : ℕ) → refuse-if bad w
 not-refused true why place e = absurd (let z : _≡_ {A = ℕ} 0 1 = cc in omega arith)
 not-refused false why place e = refl
 
--- a search for the lowest fault of n that has come to i: what is left of it is the whole
-pub record Searched (bad : ℕ → Bool) (why : Refusal) (n i : ℕ) : Type 0 where
-  pub few : i ≤ n
-  pub rest : lowest bad why 0 n ≡ lowest bad why i (n - i)
+-- and the other way
+pub refuses : {bad : Bool} (why : Refusal) (place : ℕ) → bad ≡ true → Refused why place ≡ refuse-if bad why place
+refuses why place e = rw e
 
-module _ (bad : ℕ → Bool) (why : Refusal) (n : ℕ) where
-  pub search-starts : Searched bad why n 0
+pub accepts : {bad : Bool} (why : Refusal) (place : ℕ) → bad ≡ false → refuse-if bad why place ≡ Accepted
+accepts why place e = rw e
+
+-- checks in turn, of n, that have come to number i: what is left of them is the whole
+pub record Searched (check : ℕ → Answer) (n i : ℕ) : Type 0 where
+  pub few : i ≤ n
+  pub rest : inTurn check 0 n ≡ inTurn check i (n - i)
+
+module _ (check : ℕ → Answer) (n : ℕ) where
+  pub search-starts : Searched check n 0
   search-starts = record { few = omega arith; rest = rw (sub-zero n) }
 
-  one-more : (i : ℕ) → i < n → lowest bad why i (n - i) ≡ (refuse-if (bad i) why i then lowest bad why (i + 1) (n - (i + 1)))
-  unfolding lowest
+  one-more : (i : ℕ) → i < n → inTurn check i (n - i) ≡ (check i then inTurn check (i + 1) (n - (i + 1)))
+  unfolding inTurn
   one-more i h =
       let e : n - i ≡ suc (n - (i + 1)) = omega arith in
       rw (e, add-one i)
 
-  pub search-goes-on : (i : ℕ) → i < n → bad i ≡ false → Searched bad why n i → Searched bad why n (i + 1)
-  search-goes-on i h good s = record { few = omega arith; rest = s .rest ∙ one-more i h ∙ rw good }
+  pub search-goes-on : (i : ℕ) → i < n → check i ≡ Accepted → Searched check n i → Searched check n (i + 1)
+  search-goes-on i h good s = record { few = omega arith; rest = s .rest ∙ one-more i h ∙ go-on _ good }
 
-  pub search-finds : (i : ℕ) → i < n → bad i ≡ true → Searched bad why n i → Refused why i ≡ lowest bad why 0 n
-  search-finds i h found s = rw (s .rest, one-more i h, found)
+  pub search-stops : {r : Answer} {why : Refusal} {place : ℕ} (i : ℕ) → i < n → r ≡ check i → r ≡ Refused why place → Searched check n i
+      → r ≡ inTurn check 0 n
+  search-stops i h e refused s = handed-on _ e refused ∙ sym (s .rest ∙ one-more i h)
 
-  pub search-ends : (i : ℕ) → n ≤ i → Searched bad why n i → Accepted ≡ lowest bad why 0 n
-  unfolding lowest
+  pub search-ends : (i : ℕ) → n ≤ i → Searched check n i → Accepted ≡ inTurn check 0 n
+  unfolding inTurn
   search-ends i h s =
       let e : n - i ≡ 0 = omega arith in
       rw (s .rest, e)
 
--- where nothing is refused, no index is bad
-pub none-bad : (bad : ℕ → Bool) (why : Refusal) (i n : ℕ) → lowest bad why i n ≡ Accepted → (j : ℕ) → j < n → bad (i + j) ≡ false
-unfolding lowest
-none-bad bad why i zero e j h = absurd (not-suc-le-zero h)
-none-bad bad why i (suc n) e zero h =
-    rw (add-zero i) (not-refused (bad i) why i (both-accepted (refuse-if (bad i) why i) (lowest bad why (suc i) n) e .0))
-none-bad bad why i (suc n) e (suc j) h =
+-- where nothing is refused, each check is accepted
+pub each-accepted : (check : ℕ → Answer) (i n : ℕ) → inTurn check i n ≡ Accepted → (j : ℕ) → j < n → check (i + j) ≡ Accepted
+unfolding inTurn
+each-accepted check i zero e j h = absurd (not-suc-le-zero h)
+each-accepted check i (suc n) e zero h = rw (add-zero i) (both-accepted (check i) (inTurn check (suc i) n) e .0)
+each-accepted check i (suc n) e (suc j) h =
     rw (add-suc i j, ← suc-add i j)
-    (none-bad bad why (suc i) n (both-accepted (refuse-if (bad i) why i) (lowest bad why (suc i) n) e .1) j (le-of-suc-le-suc h))
+    (each-accepted check (suc i) n (both-accepted (check i) (inTurn check (suc i) n) e .1) j (le-of-suc-le-suc h))
+
+-- and the other way
+pub all-accepted : (check : ℕ → Answer) (i n : ℕ) → ((j : ℕ) → i ≤ j → j < i + n → check j ≡ Accepted) → inTurn check i n ≡ Accepted
+unfolding inTurn
+all-accepted check i zero each = refl
+all-accepted check i (suc n) each =
+    go-on _ (each i (omega arith) (omega arith)) ∙ all-accepted check (suc i) n (λ j from to. each j (omega arith) (omega arith))
+
+-- and checks that answer the same, answer the same in turn
+pub same-in-turn : (check other : ℕ → Answer) (i n : ℕ) → ((j : ℕ) → i ≤ j → j < i + n → check j ≡ other j) → inTurn check i n ≡ inTurn other i n
+unfolding inTurn
+same-in-turn check other i zero each = refl
+same-in-turn check other i (suc n) each =
+    rw (each i (omega arith) (omega arith), same-in-turn check other (suc i) n (λ j from to. each j (omega arith) (omega arith)))

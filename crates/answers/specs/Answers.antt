@@ -50,10 +50,14 @@ Refused why place then next = Refused why place
 abbrev pub refuse-if : Bool → Refusal → ℕ → Answer
 refuse-if bad why place = cond bad (Refused why place) Accepted
 
+-- checks in order: of `left` of them from number i on, the first that refuses answers
+unfoldable pub inTurn : (ℕ → Answer) → ℕ → ℕ → Answer
+inTurn check i zero = Accepted
+inTurn check i (suc left) = check i then inTurn check (suc i) left
+
 -- "lowest": of `left` indices from i on, the first that is bad is the place
-unfoldable pub lowest : (ℕ → Bool) → Refusal → ℕ → ℕ → Answer
-lowest bad why i zero = Accepted
-lowest bad why i (suc left) = refuse-if (bad i) why i then lowest bad why (suc i) left
+abbrev pub lowest : (ℕ → Bool) → Refusal → ℕ → ℕ → Answer
+lowest bad why i left = inTurn (λ j. refuse-if (bad j) why j) i left
 
 -- what a call leaves in a lent list: the new list if it is accepted, else the list as it was
 abbrev pub left-by : {A : Type 0} → Answer → A → A → A

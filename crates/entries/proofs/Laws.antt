@@ -8,10 +8,10 @@ use native.Mathlib.Omega.{arith}
 use lib.ListN.{length, getD}
 use lib.Dec.{leb, ltb, eqb, lit≤}
 use borrow.Author.Tests.{eqb-true, eqb-false, leb-true, ltb-false, lt-ltb, le-ltb, eq-eqb, not-true, not-false}
-use Rattle.answers.specs.Answers.{_then_, lowest}
+use Rattle.answers.specs.Answers.{_then_, refuse-if, inTurn, lowest}
 use Rattle.answers.specs.declared.Refusal.the-variants.{Size}
 use Rattle.answers.specs.declared.Answer.the-variants.{Accepted}
-use Rattle.answers.proofs.Laws.{both-accepted, not-refused, none-bad}
+use Rattle.answers.proofs.Laws.{both-accepted, not-refused, each-accepted}
 use Rattle.kinds.specs.declared.Kind.{Kind}
 use Rattle.kinds.specs.Kinds.{Within, limitsOf, inRange, kindAt, movementKind, approachKind, groupOf}
 use Rattle.lists.proofs.Tests.{both-true, not-both, neither}
@@ -93,7 +93,7 @@ module _ (e : List ℕ) where
 
   -- entries that are all in range leave nothing to refuse
   pub all-accepted : (i n : ℕ) → allInRange e i n ≡ true → lowest (faulty e Range) (refusalOf Range) i n ≡ Accepted
-  unfolding allInRange outside lowest
+  unfolding allInRange outside inTurn
   all-accepted i zero h = refl
   all-accepted i (suc n) h =
       let two : (inRange (kindAt i) (getD e i 0) ≡ true) × (allInRange e (suc i) n ≡ true) = both-true _ _ h in
@@ -116,7 +116,9 @@ module _ (e : List ℕ) (ok : judged e ≡ Accepted) where
   last = both-accepted (eachAnswer e Shared) (eachAnswer e NoLane) (later .1)
 
   fault-free : (fault : Fault) → eachAnswer e fault ≡ Accepted → (i : ℕ) → i < countOf fault → faulty e fault i ≡ false
-  fault-free fault h i p = rw zero-add at (none-bad (faulty e fault) (refusalOf fault) 0 (countOf fault) h i p)
+  fault-free fault h i p =
+      not-refused (faulty e fault i) (refusalOf fault) i
+      (rw zero-add at (each-accepted (λ j. refuse-if (faulty e fault j) (refusalOf fault) j) 0 (countOf fault) h i p))
 
   -- there are as many as there should be
   pub accepted-count : length e ≡ entryCount

@@ -14,16 +14,17 @@ use Rattle.procedure.specs.Lines.{optionAOf, leftA, optionA, allowedA, allowedB
 use Rattle.procedure.specs.Lines.{line27, line28, firstLines, laterLines, lines}
 use Rattle.procedure.specs.Pairs.{protected, permitted, split, picked, pair, throughTime, leftTime, rightTotal, icuOf, letterOf}
 use Rattle.procedure.specs.Sheet.{linesAt, pairAt, rightAt, lastOf, lastAt, sheet}
-use Rattle.answers.specs.Answers.{lowest}
+use Rattle.answers.specs.Answers.{inTurn}
 use Rattle.kinds.specs.Kinds.{inRange, kindAt}
 use Rattle.entries.specs.Judging.{sizeAnswer, outside, badlyShared, otherLanes, unserved, judged}
 use Rattle.procedure.specs.Junctions.{K1}
 use Rattle.lists.specs.Lists.{table}
 use Rattle.study_numbers.specs.Numbers.{bytesOf, packed}
-use Rattle.study.specs.Study.{startsWith, offsetFields, judgement, fileOf}
+use Rattle.study_format.specs.Format.{startsWith, judgement, fileOf}
+use Rattle.study.specs.Study.{icus}
 use Rattle.text.specs.Text.{ascii, digits, decimal, numberThen}
 use Rattle.study_listing.specs.Listing.{ratedLine, refusedLine, siteOf, siteLines, listing}
 
-pub example : listing (fileOf (K1 ++ set K1 80 29)) ≡ ascii "1 666 C PP\n2 R3 80\n"
-unfolding ascii inRange kindAt up term turns faded decayNumber laneFactor movementEntry approachEntry readMovement readApproach a b volume vST turningT fT flowOf flow turningST sST sSL G interference frequency F time reference adjustedOf weightedOf weighted adjusted heaviest vLL q single leftShare equivalent E flowA sA optionAOf leftA optionA allowedA allowedB empty line23 sB throughB optionB line24 lesser line25 line26 line27 line28 firstLines laterLines lines protected permitted split picked pair throughTime leftTime rightTotal icuOf letterOf linesAt pairAt rightAt lastOf lastAt sheet lowest sizeAnswer outside badlyShared otherLanes unserved judged bytesOf table packed startsWith offsetFields judgement fileOf digits decimal numberThen ratedLine refusedLine siteOf siteLines listing
+pub example : listing (fileOf icus (K1 ++ set K1 80 29)) ≡ ascii "1 666 C PP\n2 R3 80\n"
+unfolding ascii inRange kindAt up term turns faded decayNumber laneFactor movementEntry approachEntry readMovement readApproach a b volume vST turningT fT flowOf flow turningST sST sSL G interference frequency F time reference adjustedOf weightedOf weighted adjusted heaviest vLL q single leftShare equivalent E flowA sA optionAOf leftA optionA allowedA allowedB empty line23 sB throughB optionB line24 lesser line25 line26 line27 line28 firstLines laterLines lines protected permitted split picked pair throughTime leftTime rightTotal icuOf letterOf linesAt pairAt rightAt lastOf lastAt sheet inTurn sizeAnswer outside badlyShared otherLanes unserved judged bytesOf table packed startsWith judgement fileOf digits decimal numberThen ratedLine refusedLine siteOf siteLines listing
 example = refl

@@ -12,9 +12,9 @@ use Rattle.answers.specs.declared.Answer.{Answer}
 use Rattle.answers.specs.declared.Answer.the-variants.{Accepted}
 use Rattle.answers.specs.declared.Answer.the-variants.{Refused as No}
 use Rattle.lists.proofs.Laws.{over-nothing}
-use Rattle.study.specs.Study.{siteLimit, sitesOf, siteEntries, siteAnswer, judgement}
-use Rattle.study.proofs.Laws.{accepted}
-use Rattle.study.proofs.LongFile.{decisive, front-decides}
+use Rattle.study_format.proofs.Laws.{accepted}
+use Rattle.study.specs.Study.{icus, siteLimit, sitesOf, siteEntries, siteAnswer, judgement}
+use Rattle.study_theorems.proofs.Study.{decisive, front-decides}
 use Rattle.text.specs.Text.{numberThen, Placed, ascii}
 use Rattle.text.proofs.Laws.{length-numberThen, placed-next}
 use Rattle.study_listing.specs.Listing.{space, lineFeed, letterByte, phasingByte, ratedLine, refusedLine, lineOf, lineMost, fileLine}
@@ -123,7 +123,7 @@ unfolding listing
 length-listing file = by (judgement file) refl
   where
     by : (answer : Answer) → judgement file ≡ answer → length (listingBy answer file) ≤ areaBytes
-    by Accepted good = omega (arith, length-siteLines file (sitesOf file), accepted file good .few)
+    by Accepted good = omega (arith, length-siteLines file (sitesOf file), accepted icus file good .few)
     by (No why place) bad = omega (arith, length-fileLine place)
 
 -- so it is never refused for want of room there
@@ -140,5 +140,5 @@ unfolding listing
 front-lists file m enough long = by (judgement file) refl
   where
     by : (answer : Answer) → judgement file ≡ answer → listingBy (judgement (take m file)) (take m file) ≡ listingBy (judgement file) file
-    by Accepted good = absurd (omega (arith, accepted file good .few, accepted file good .size))
+    by Accepted good = absurd (omega (arith, accepted icus file good .few, accepted icus file good .size))
     by (No why place) bad = rw (front-decides file m enough long, bad)

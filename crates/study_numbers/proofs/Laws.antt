@@ -7,19 +7,19 @@ use lib.Seq.{sets-eq}
 use native.Mathlib.Omega.{arith}
 use Rattle.lists.specs.Lists.{over}
 use Rattle.lists.proofs.Laws.{over-nothing, over-next}
-use Rattle.study_numbers.specs.Numbers.{bytesOf, packed}
+use Rattle.study_numbers.specs.Numbers.{numberBytes, bytesOf, packed}
 
-pub length-bytesOf : (number : ℕ) → length (bytesOf number) ≡ 4
+pub length-bytesOf : (number : ℕ) → length (bytesOf number) ≡ numberBytes
 unfolding bytesOf
 length-bytesOf number = refl
 
-pub length-packed : (numbers : List ℕ) → length (packed numbers) ≡ 4 * length numbers
+pub length-packed : (numbers : List ℕ) → length (packed numbers) ≡ numberBytes * length numbers
 unfolding packed
 length-packed [] = refl
 length-packed (number ∷ numbers) = simp (length-append, length-bytesOf, length-packed numbers) (omega arith)
 
 -- four stores, one after the other, put four bytes over a list
-pub four-stores : (list : List ℕ) (at a b c d : ℕ) → at + 4 ≤ length list
+pub four-stores : (list : List ℕ) (at a b c d : ℕ) → at + numberBytes ≤ length list
     → set (set (set (set list at a) (at + 1) b) (at + 2) c) (at + 3) d ≡ over list at (a ∷ b ∷ c ∷ d ∷ [])
 unfolding over
 four-stores list at a b c d h =
@@ -43,8 +43,8 @@ unfolding packed
 packed-none list at = sym (over-nothing list at)
 
 -- and one more
-pub packed-more : (list : List ℕ) (at n : ℕ) (numbers : List ℕ) (number : ℕ) → length numbers ≡ n → at + 4 * n + 4 ≤ length list
-    → over (over list at (packed numbers)) (at + 4 * n) (bytesOf number) ≡ over list at (packed (numbers ++ (number ∷ [])))
+pub packed-more : (list : List ℕ) (at n : ℕ) (numbers : List ℕ) (number : ℕ) → length numbers ≡ n → at + numberBytes * n + numberBytes ≤ length list
+    → over (over list at (packed numbers)) (at + numberBytes * n) (bytesOf number) ≡ over list at (packed (numbers ++ (number ∷ [])))
 packed-more list at n numbers number e h =
     rw (packed-append numbers (number ∷ []), packed-one number)
-    (over-next list at (4 * n) (packed numbers) (bytesOf number) (omega (arith, length-packed numbers)) (omega (arith, length-bytesOf number)))
+    (over-next list at (numberBytes * n) (packed numbers) (bytesOf number) (omega (arith, length-packed numbers)) (omega (arith, length-bytesOf number)))

@@ -7,6 +7,7 @@ use native.Mathlib.Omega.{arith}
 use Prim.Native.Nat.{_≤_, _-_}
 use mathlib.Core.List.{_++_}
 use mathlib.Core.Path.{_≡_, refl, _∙_}
+use borrow.Author.Needs.{needs}
 use Rattle.study_numbers.proofs.read_all.Statement.{statement}
 use Rattle.study_numbers.proofs.read_all.Tie as tie
 
@@ -20,24 +21,6 @@ loop-holds : tie.Need-loop-holds Inv-loop μ-loop
 unfolding table
 loop-holds c = (omega arith, refl, refl)
 
-mul-read : tie.Need-mul-read Inv-loop μ-loop
-mul-read c = omega arith
-
-read-requires : tie.Need-read-requires Inv-loop μ-loop
-read-requires c κs = omega arith
-
-mul-numbers : tie.Need-mul-numbers Inv-loop μ-loop
-mul-numbers c = omega arith
-
-slice-write-numbers : tie.Need-slice-write-numbers Inv-loop μ-loop
-slice-write-numbers c = omega arith
-
-add-i : tie.Need-add-i Inv-loop μ-loop
-add-i c = omega arith
-
-loop-less : tie.Need-loop-less Inv-loop μ-loop
-loop-less c = omega arith
-
 loop-again : tie.Need-loop-again Inv-loop μ-loop
 loop-again c =
     let turn = c .before .before in (
@@ -45,9 +28,6 @@ loop-again c =
       simp length-set (turn .loop .inv .1),
       rw (c .read .ensures, turn .loop .inv .2) (filled-more _ _ (turn .loop .i) (omega arith)),
     )
-
-same-length : tie.Need-same-length Inv-loop μ-loop
-same-length c = omega arith
 
 returns : tie.Need-returns Inv-loop μ-loop
 returns c =
@@ -58,5 +38,5 @@ returns c =
 pub read-all-spec : {M : Type 1} → statement M
 read-all-spec =
     tie.close
-    (tie.spec Inv-loop μ-loop loop-holds mul-read read-requires mul-numbers slice-write-numbers add-i loop-less
-    loop-again same-length returns)
+    (tie.spec Inv-loop μ-loop loop-holds (search needs) (search needs) (search needs) (search needs) (search needs)
+    (search needs) loop-again (search needs) returns)

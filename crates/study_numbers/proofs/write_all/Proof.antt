@@ -8,6 +8,7 @@ use native.Mathlib.Numerals.{add-one}
 use native.Mathlib.Omega.{arith}
 use Prim.Native.Nat.{_≤_, _-_}
 use mathlib.Core.Path.{_≡_, refl, _∙_}
+use borrow.Author.Needs.{needs}
 use Rattle.study_numbers.proofs.write_all.Statement.{statement}
 use Rattle.study_numbers.proofs.write_all.Tie as tie
 
@@ -19,27 +20,6 @@ abbrev μ-loop : tie.MeasureT-loop
 
 loop-holds : tie.Need-loop-holds Inv-loop μ-loop
 loop-holds c = (omega arith, refl, packed-none _ _)
-
-mul-write : tie.Need-mul-write Inv-loop μ-loop
-mul-write c = omega arith
-
-add-write : tie.Need-add-write Inv-loop μ-loop
-add-write c = omega arith
-
-mul-write-2 : tie.Need-mul-write-2 Inv-loop μ-loop
-mul-write-2 c = omega arith
-
-shared-slice-read-write : tie.Need-shared-slice-read-write Inv-loop μ-loop
-shared-slice-read-write c = omega arith
-
-write-requires : tie.Need-write-requires Inv-loop μ-loop
-write-requires c κs = omega arith
-
-add-i : tie.Need-add-i Inv-loop μ-loop
-add-i c = omega arith
-
-loop-less : tie.Need-loop-less Inv-loop μ-loop
-loop-less c = omega arith
 
 loop-again : tie.Need-loop-again Inv-loop μ-loop
 loop-again c =
@@ -55,9 +35,6 @@ loop-again c =
           (packed-more (args .bytes .now) (args .at) i (take i numbers) (getD numbers i 0) (length-take-le i numbers (omega arith)) (omega arith)),
     )
 
-same-length : tie.Need-same-length Inv-loop μ-loop
-same-length c = omega arith
-
 returns : tie.Need-returns Inv-loop μ-loop
 returns c =
     let numbers = c .before .before .before .before .args .numbers .now in
@@ -67,5 +44,5 @@ returns c =
 pub write-all-spec : {M : Type 1} → statement M
 write-all-spec =
     tie.close
-    (tie.spec Inv-loop μ-loop loop-holds mul-write add-write mul-write-2 shared-slice-read-write write-requires
-    add-i loop-less loop-again same-length returns)
+    (tie.spec Inv-loop μ-loop loop-holds (search needs) (search needs) (search needs) (search needs) (search needs)
+    (search needs) (search needs) loop-again (search needs) returns)

@@ -1,4 +1,0 @@
-pub mod Laws
-pub mod Written
-pub mod RoundTrip
-pub mod LongFile

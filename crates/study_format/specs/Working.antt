@@ -1,0 +1,13 @@
+-- What a format must be for the code to serve it: an opening as long as a number, and a largest file whose end is a u32.
+use Prim.Native.Nat.{_<_}
+use mathlib.Core.Path.{_≡_}
+use lib.ListN.{length}
+use Rattle.study_numbers.specs.Numbers.{numberBytes, numberLimit}
+use Rattle.study_format.specs.declared.Format.{Format}
+use Rattle.study_format.specs.Format.{fileBytes}
+
+pub record Modest (f : Format) : Type 0 where
+  pub opens : length (f .opening) ≡ numberBytes
+  pub entries : 0 < f .entries
+  pub sites : 0 < f .most
+  pub fits : fileBytes f (f .most) < numberLimit

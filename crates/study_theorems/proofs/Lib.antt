@@ -1,0 +1,3 @@
+pub mod LongFile
+pub mod RoundTrip
+pub mod Study
