@@ -1,4 +1,4 @@
--- `names::is_word`. The loop's invariant: whether the bytes passed agree.
+-- `text_names::is_word`. The loop's invariant: whether the bytes passed agree.
 use Rattle.text_names.proofs.Laws.{agrees-on, agrees-not}
 use borrow.Author.Tests.{le-leb, lt-leb}
 use native.Mathlib.Omega.{arith}

@@ -1,4 +1,4 @@
-use Rattle.text_names.proofs.Laws.{within}
+use Rattle.text_names.proofs.Laws.{getD-within}
 use mathlib.Core.Path.{sym}
 use lib.ListN.{List·getD-eq-default}
 use borrow.Author.Needs.{needs}
@@ -6,7 +6,7 @@ use Rattle.text_names.proofs.padded.Statement.{statement}
 use Rattle.text_names.proofs.padded.Tie as tie
 
 returns : tie.Need-returns
-returns c = within (c .before .before .args .word .now) (c .before .before .args .i) 0 32 (c .before .if1 .taken)
+returns c = getD-within (c .before .before .args .word .now) (c .before .before .args .i) 0 32 (c .before .if1 .taken)
 
 returns-2 : tie.Need-returns-2
 returns-2 c = sym (List·getD-eq-default (c .before .args .word .now) 32 (c .if1 .left))
