@@ -1,10 +1,10 @@
-use Rattle.text_reader.proofs.Laws.{digit-next}
-use Rattle.text_reader.specs.Reader.{nextNumber}
+use Rattle.text_numbers.proofs.Laws.{digit-next}
+use Rattle.text_numbers.specs.Numbers.{nextNumber}
 use borrow.Author.Tests.{lt-ltb, le-ltb, lt-leb, le-leb}
 use native.Mathlib.Omega.{arith}
 use borrow.Author.Needs.{needs}
-use Rattle.text_reader.proofs.next_number.Statement.{statement}
-use Rattle.text_reader.proofs.next_number.Tie as tie
+use Rattle.text_numbers.proofs.next_number.Statement.{statement}
+use Rattle.text_numbers.proofs.next_number.Tie as tie
 
 returns : tie.Need-returns
 unfolding nextNumber

@@ -1,8 +1,8 @@
 use borrow.Author.Tests.{eq-eqb, ne-eqb}
 use borrow.Author.Needs.{needs}
-use Rattle.text_reader.specs.Reader.{numberOf}
-use Rattle.text_reader.proofs.number_of.Statement.{statement}
-use Rattle.text_reader.proofs.number_of.Tie as tie
+use Rattle.text_numbers.specs.Numbers.{numberOf}
+use Rattle.text_numbers.proofs.number_of.Statement.{statement}
+use Rattle.text_numbers.proofs.number_of.Tie as tie
 
 returns : tie.Need-returns
 unfolding numberOf

@@ -1,9 +1,9 @@
 use mathlib.Core.Path.{sym, _∙_}
-use Rattle.text_reader.proofs.Laws.{value-taken, name-taken}
-use Rattle.text_reader.specs.Reader.{taken}
+use Rattle.text_words.proofs.Laws.{value-taken, name-taken}
+use Rattle.text_words.specs.Words.{taken}
 use borrow.Author.Needs.{needs}
-use Rattle.text_reader.proofs.take.Statement.{statement}
-use Rattle.text_reader.proofs.take.Tie as tie
+use Rattle.text_words.proofs.take.Statement.{statement}
+use Rattle.text_words.proofs.take.Tie as tie
 
 returns : tie.Need-returns
 unfolding taken

@@ -1,8 +1,8 @@
-use Rattle.text_reader.specs.Reader.{takenName}
+use Rattle.text_words.specs.Words.{takenName}
 use borrow.Author.Tests.{lt-ltb, le-ltb}
 use borrow.Author.Needs.{needs}
-use Rattle.text_reader.proofs.take_name.Statement.{statement}
-use Rattle.text_reader.proofs.take_name.Tie as tie
+use Rattle.text_words.proofs.take_name.Statement.{statement}
+use Rattle.text_words.proofs.take_name.Tie as tie
 
 returns : tie.Need-returns
 unfolding takenName

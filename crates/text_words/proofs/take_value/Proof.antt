@@ -1,8 +1,8 @@
-use Rattle.text_reader.specs.Reader.{takenValue}
+use Rattle.text_words.specs.Words.{takenValue}
 use borrow.Author.Tests.{lt-ltb, le-ltb}
 use borrow.Author.Needs.{needs}
-use Rattle.text_reader.proofs.take_value.Statement.{statement}
-use Rattle.text_reader.proofs.take_value.Tie as tie
+use Rattle.text_words.proofs.take_value.Statement.{statement}
+use Rattle.text_words.proofs.take_value.Tie as tie
 
 returns : tie.Need-returns
 unfolding takenValue

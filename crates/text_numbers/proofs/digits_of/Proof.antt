@@ -1,13 +1,13 @@
--- `reader::digits_of`. The loop's invariant: the number that the bytes passed spell.
-use Rattle.text_reader.proofs.Laws.{number-more}
-use Rattle.text_reader.specs.Reader.{numberIn}
+-- `text_numbers::digits_of`. The loop's invariant: the number that the bytes passed spell.
+use Rattle.text_numbers.proofs.Laws.{number-more}
+use Rattle.text_numbers.specs.Numbers.{numberIn}
 use lib.ListN.{length}
 use native.Mathlib.Omega.{arith}
 use mathlib.Core.Path.{_≡_, refl, _∙_}
 use Prim.Native.Nat.{_≤_, _-_}
 use borrow.Author.Needs.{needs}
-use Rattle.text_reader.proofs.digits_of.Statement.{statement}
-use Rattle.text_reader.proofs.digits_of.Tie as tie
+use Rattle.text_numbers.proofs.digits_of.Statement.{statement}
+use Rattle.text_numbers.proofs.digits_of.Tie as tie
 
 abbrev Inv-loop : tie.InvT-loop
 Inv-loop word number₀ n₀ number n = (n ≤ length word) × (number ≡ numberIn word n)
