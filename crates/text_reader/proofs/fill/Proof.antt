@@ -1,4 +1,4 @@
--- `reader::fill`. The loop's invariant: the entries passed have their usual values, the others are as they were.
+-- `text_reader::fill`. The loop's invariant: the entries passed have their usual values, the others are as they were.
 use Rattle.text_reader.specs.Reader.{usually}
 use Rattle.lists.specs.Lists.{table}
 use Rattle.lists.proofs.Laws.{filled-more, filled-all}

@@ -1,10 +1,11 @@
--- `reader::parse`. The loop's invariant: the state is that of the bytes passed.
+-- `text_reader::parse`. The loop's invariant: the state is that of the bytes passed.
 use Rattle.text_reader.proofs.Laws.{all-parsed, scan-more}
-use Rattle.text_reader.specs.Reader.{usually, scan, scanned}
+use Rattle.text_reader.specs.Reader.{usually, scanned}
+use Rattle.text_reader.specs.Working.{scan}
 use Rattle.lists.proofs.Laws.{length-table}
 use lib.ListN.{length-replicate, length}
 use mathlib.Core.Path.{ap, _≡_, _∙_}
-use Rattle.entries.specs.Layout.{entryCount}
+use Rattle.layout.specs.Entries.{entryCount}
 use native.Mathlib.Omega.{arith}
 use Prim.Native.Nat.{ℕ, _≤_, _-_}
 use borrow.Author.Needs.{needs}
