@@ -5,7 +5,7 @@ use mathlib.Core.Bool.{Bool, true, false, cond, not, _&&_, _||_}
 use mathlib.Core.List.{List, [], _∷_, _++_, append-nil}
 use lib.ListN.{length, getD, length-append}
 use lib.Dec.{eqb, ltb, leb}
-use borrow.Author.Tests.{eq-eqb, ne-eqb, lt-ltb, le-ltb, ltb-true, leb-true}
+use borrow.Author.Tests.{eq-eqb, ne-eqb, eqb-true, lt-ltb, le-ltb, ltb-true, leb-true}
 use native.Mathlib.Numerals.{add-one}
 use native.Mathlib.Omega.{arith}
 use Rattle.text.specs.Text.{Placed}
@@ -14,7 +14,7 @@ use Rattle.text.proofs.Laws.{placed-next}
 use Rattle.lists.proofs.Tests.{both-true, holds-below, at-each}
 use Rattle.layout.specs.Entries.{entryCount}
 use Rattle.text_names.specs.Names.{wordByte, wordIn, wordOf, wordWidth, wordCount, padded, agrees, isWord, foundIn}
-use Rattle.text_names.specs.Names.{titleCount, kindCount, classOf, hasKind, entryIn, entryUnder}
+use Rattle.text_names.specs.Names.{titleCount, kindCount, classOf, classAt, hasKind, entryIn, entryUnder, titleOf, kindOf}
 use Rattle.text_names.specs.Working.{OfTitle}
 use Rattle.text_names.specs.declared.Class.{Class}
 
@@ -114,3 +114,25 @@ pub under-fits : {class : Class} (title kind : ℕ) → OfTitle title class → 
 under-fits {class} title kind of named =
     let kinds = both-true (leb (class .kind) kind) _ (rw (← of .is) at (named .2)) in
     record { entry = rw (of .is) (entry-fits title kind (named .0) (named .1) (named .2)); from = leb-true _ _ (kinds .0) }
+
+-- each entry stands under a title, and is the one of its kind there
+stands : ℕ → Bool
+stands i = ltb (titleOf i) titleCount && (ltb (kindOf i) kindCount && (hasKind (titleOf i) (kindOf i) && eqb (entryIn (titleOf i) (kindOf i)) i))
+
+all-stand : holds-below stands entryCount ≡ true
+unfolding stands classOf classAt
+all-stand = refl
+
+pub record InPlace (i : ℕ) : Type 0 where
+  pub title : titleOf i < titleCount
+  pub kind : kindOf i < kindCount
+  pub has : hasKind (titleOf i) (kindOf i) ≡ true
+  pub entry : entryIn (titleOf i) (kindOf i) ≡ i
+
+pub in-place : (i : ℕ) → i < entryCount → InPlace i
+unfolding stands
+in-place i h =
+    let all = both-true (ltb (titleOf i) titleCount) _ (at-each stands entryCount all-stand i h) in
+    let kinds = both-true (ltb (kindOf i) kindCount) _ (all .1) in
+    let is = both-true (hasKind (titleOf i) (kindOf i)) _ (kinds .1) in
+    record { title = ltb-true _ _ (all .0); kind = ltb-true _ _ (kinds .0); has = is .0; entry = eqb-true _ _ (is .1) }

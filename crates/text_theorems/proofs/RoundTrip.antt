@@ -1,32 +1,37 @@
--- What is written is read back: the text of any entries is read as those entries.
-use Prim.Native.Nat.{ℕ, zero, suc, _+_, _%_, _^_, _<_, _≤_}
+-- What is written is read back: the text of any entries is read as those entries. Each word of the table is found in its own
+-- row, each entry's text sets that entry, and so do the texts of all the entries, one after the other.
+use Prim.Native.Nat.{ℕ, zero, suc, _+_, _^_, _<_, _≤_}
 use mathlib.Core.Path.{_≡_, refl, sym, _∙_}
-use mathlib.Core.Bool.{Bool, true, false, cond, not, _&&_}
+use mathlib.Core.Bool.{Bool, true, false, cond, not, _&&_, _||_}
 use mathlib.Core.List.{List, [], _∷_, _++_, append-assoc}
 use lib.ListN.{length, getD, drop, set, replicate}
 use lib.Seq.{getD-set-other, take-length, ext-getD}
 use lib.Dec.{eqb, ltb}
-use borrow.Author.Tests.{eqb-true, eqb-false, ne-eqb, not-true, ltb-true, ltb-false, le-ltb}
+use borrow.Author.Tests.{eqb-true, ne-eqb, not-true, ltb-true, le-ltb}
 use native.Mathlib.Nat.{add-zero, zero-add}
 use native.Mathlib.Numerals.{add-one}
 use native.Mathlib.Omega.{arith}
-use Rattle.lists.proofs.Tests.{holds-below, both-true, at-each}
-use Rattle.answers.specs.declared.Answer.the-variants.{Accepted}
-use Rattle.entries.specs.Layout.{entryCount}
-use Rattle.entries.specs.Judging.{judged}
+use Rattle.layout.specs.Entries.{entryCount}
 use Rattle.lists.specs.Lists.{AllBelow, table}
 use Rattle.lists.proofs.Laws.{length-table, table-at, filled-more, filled-all}
+use Rattle.lists.proofs.Tests.{holds-below, both-true, at-each}
+use Rattle.answers.specs.declared.Answer.the-variants.{Accepted}
+use Rattle.entries.specs.Judging.{judged}
 use Rattle.text.specs.Text.{ascii, joined, decimal, numberThen}
 use Rattle.text.proofs.Laws.{decimal-digits}
-use Rattle.text_names.specs.Names.{groupCount, wordCount, wordTable, wordIn, wordOf, agrees, isWord, foundIn, rowOf}
-use Rattle.text_names.specs.Names.{hasKind, entryIn, groupOf, kindOf}
-use Rattle.text_reader.specs.Reader.{endsWord, notNumber, stands, State, state, wordTaken, scanned, start, usually}
+use Rattle.text_numbers.specs.Numbers.{notNumber}
+use Rattle.text_numbers.proofs.Laws.{decimal-some, number-read}
+use Rattle.text_names.specs.Names.{titleCount, wordCount, wordTable, wordIn, wordOf, agrees, isWord, foundIn, rowOf, junction}
+use Rattle.text_names.specs.Names.{classAt, titleOf, kindOf, isFirst, isLast}
+use Rattle.text_names.proofs.Laws.{in-place}
+use Rattle.text_words.specs.Words.{stands, State, state}
+use Rattle.text_words.proofs.Laws.{title-named, kind-named, value-set}
+use Rattle.text_reader.specs.Reader.{endsWord, wordTaken, scanned, start, usually}
 use Rattle.text_reader.specs.Reader.{ended, parsed, textMost, shortReading, reading, keptUnlessRead}
 use Rattle.text_reader.specs.declared.Reading.the-variants.{Read}
 use Rattle.text_writer.specs.Writer.{space, lineFeed, opening, closing, entryText, entryTexts, junctionText}
-use Rattle.text_writer.proofs.Laws.{has-word, length-entryTexts}
-use Rattle.text_writer.proofs.Reading.{decimal-some, number-read, Has, has-first, has-second, Reads, reads-both, Word, Blank, reads-word}
-use Rattle.text_writer.proofs.Reading.{group-named, kind-named, value-set}
+use Rattle.text_writer.proofs.Laws.{length-entryTexts}
+use Rattle.text_theorems.proofs.Reading.{Has, has-first, has-second, Reads, reads-both, Word, Blank, reads-word}
 
 -- each word of the table stands in a row of its own, and is one word of a text
 
@@ -61,15 +66,6 @@ in-table row h =
       };
     }
 
--- each entry is the one of its kind in its group
-
-has-kind : (i : ℕ) → i < entryCount → hasKind (groupOf i) (kindOf i) ≡ true
-has-kind = at-each (λ i. hasKind (groupOf i) (kindOf i)) entryCount refl
-
-its-entry : (i : ℕ) → i < entryCount → entryIn (groupOf i) (kindOf i) ≡ i
-its-entry i h =
-    eqb-true (entryIn (groupOf i) (kindOf i)) i (at-each (λ i. eqb (entryIn (groupOf i) (kindOf i)) i) entryCount refl i h)
-
 -- a number is one word of a text
 
 plain-digit : (byte : ℕ) → 48 ≤ byte → byte < 58 → endsWord byte ≡ false
@@ -97,78 +93,86 @@ space-blank : Blank space
 space-blank = record { ends = refl; quiet = refl }
 
 closing-blank : (i : ℕ) → Blank (closing i)
-closing-blank i = by (eqb (i % 5) 4) (eqb i 80)
+closing-blank i = by (isLast i)
   where
-    by : (a b : Bool) → Blank (cond a lineFeed (cond b lineFeed space))
-    by true b = record { ends = refl; quiet = refl }
-    by false true = record { ends = refl; quiet = refl }
-    by false false = space-blank
+    by : (b : Bool) → Blank (cond b lineFeed space)
+    by true = record { ends = refl; quiet = refl }
+    by false = space-blank
 
--- an entry's text sets that entry, from a state in its group, or in any if the text names the group
+-- an entry's text sets that entry, from a state under its title, or under any if the text names the title
 
 abbrev named : ℕ → List ℕ
-named i = opening i ++ (wordOf (groupCount + kindOf i) ++ (space ∷ []))
+named i = opening i ++ (wordOf (titleCount + kindOf i) ++ (space ∷ []))
 
-module _ (text : List ℕ) (at i group : ℕ) (entries places : List ℕ)
-    (h : i < entryCount) (same : (i % 5 ≡ 0 → ⊥) → group ≡ groupOf i) where
+module _ (text : List ℕ) (at i title : ℕ) (entries places : List ℕ)
+    (h : i < entryCount) (same : isFirst i ≡ false → title ≡ titleOf i) where
   abbrev before : State
-  before = state (stands group entryCount) entries places
+  before = state (stands title entryCount) entries places
 
-  abbrev grouped : State
-  grouped = state (stands (groupOf i) entryCount) entries places
+  abbrev titled : State
+  titled = state (stands (titleOf i) entryCount) entries places
 
-  reads-opening : Has text at (opening i) → Reads text at (opening i) before grouped
+  reads-opening : Has text at (opening i) → Reads text at (opening i) before titled
   unfolding opening
-  reads-opening = by (eqb (i % 5) 0) refl
+  reads-opening = by (isFirst i) refl
     where
-      by : (b : Bool) → eqb (i % 5) 0 ≡ b → Has text at (cond b (wordOf (groupOf i) ++ (space ∷ [])) [])
-          → Reads text at (cond b (wordOf (groupOf i) ++ (space ∷ [])) []) before grouped
+      by : (b : Bool) → isFirst i ≡ b → Has text at (cond b (wordOf (titleOf i) ++ (space ∷ [])) [])
+          → Reads text at (cond b (wordOf (titleOf i) ++ (space ∷ [])) []) before titled
       by true e has =
-          let word = wordOf (groupOf i) in
-          let row = in-table (groupOf i) (omega arith) in
-          rw (group-named at word group entries places (groupOf i) (row .is) (omega arith)) at
+          let word = wordOf (titleOf i) in
+          let there = in-place i h .title in
+          let row = in-table (titleOf i) (omega (arith, there)) in
+          rw (title-named at word title entries places (titleOf i) (row .is) there) at
           (reads-word text at word space before has (row .word) space-blank)
-      by false e has = λ r. rw (add-zero at, ← same (eqb-false (i % 5) 0 e)) r
+      by false e has = λ r. rw (add-zero at, ← same e) r
 
   reads-named : getD places i 0 ≡ 0 → Has text at (named i)
-      → Reads text at (named i) before (state (stands (groupOf i) i) entries places)
+      → Reads text at (named i) before (state (stands (titleOf i) i) entries places)
   reads-named none has =
-      let word = wordOf (groupCount + kindOf i) in
+      let word = wordOf (titleCount + kindOf i) in
       let name = word ++ (space ∷ []) in
       let past = at + length (opening i) in
-      let there = has-word i h in
-      let row = in-table (groupCount + kindOf i) there in
-      let takes = kind-named past word (groupOf i) entries places (kindOf i) i (row .is) there (omega arith) in
-      let is = takes (has-kind i h) (its-entry i h) none in
+      let under = in-place i h in
+      let there : titleCount + kindOf i < wordCount = omega (arith, under .kind) in
+      let row = in-table (titleCount + kindOf i) there in
+      let takes = kind-named past word (titleOf i) entries places (kindOf i) i (row .is) there (under .title) in
+      let is = takes (under .has) (under .entry) none in
       let second = has-second text at (opening i) name has in
       reads-both text at (opening i) name (reads-opening (has-first text at (opening i) name has))
-      (rw is at (reads-word text past word space grouped second (row .word) space-blank))
+      (rw is at (reads-word text past word space titled second (row .word) space-blank))
 
   reads-entry : (value : ℕ) → value < notNumber → getD places i 0 ≡ 0 → Has text at (entryText i value)
       → Reads text at (entryText i value) before
-      (state (stands (groupOf i) entryCount) (set entries i value) (set places i (at + length (named i) + 1)))
+      (state (stands (titleOf i) entryCount) (set entries i value) (set places i (at + length (named i) + 1)))
   unfolding entryText numberThen
   reads-entry value fits none whole =
-      let word = wordOf (groupCount + kindOf i) in
+      let word = wordOf (titleCount + kindOf i) in
       let number = decimal value ++ (closing i ∷ []) in
       let past = at + length (named i) in
       let has = rw (append-assoc (opening i) word (space ∷ [])) at whole in
-      let is = value-set past (decimal value) (groupOf i) entries places i value (number-read value fits) fits h in
-      let due = state (stands (groupOf i) i) entries places in
+      let is = value-set past (decimal value) (titleOf i) entries places i value (number-read value fits) fits h in
+      let due = state (stands (titleOf i) i) entries places in
       let second = has-second text at (named i) number has in
       rw (append-assoc (opening i) word (space ∷ []))
       (reads-both text at (named i) number (reads-named none (has-first text at (named i) number has))
       (rw is at (reads-word text past (decimal value) (closing i) due second (decimal-word value fits) (closing-blank i))))
 
--- the group that was named last, past the first n entries
+-- the title that was named last, past the first n entries, is that of the next unless the next is its title's first
 
-abbrev groupAfter : ℕ → ℕ
-groupAfter zero = groupCount
-groupAfter (suc n) = groupOf n
+abbrev titleAfter : ℕ → ℕ
+titleAfter zero = titleCount
+titleAfter (suc n) = titleOf n
 
-same-group : (n : ℕ) → (n % 5 ≡ 0 → ⊥) → groupAfter n ≡ groupOf n
-same-group zero f = absurd (f refl)
-same-group (suc n) f = omega (arith, f)
+goesUnder : ℕ → Bool
+goesUnder n = isFirst n || eqb (titleAfter n) (titleOf n)
+
+all-go : holds-below goesUnder entryCount ≡ true
+unfolding goesUnder classAt
+all-go = refl
+
+same-title : (n : ℕ) → n < entryCount → isFirst n ≡ false → titleAfter n ≡ titleOf n
+unfolding goesUnder
+same-title n h later = eqb-true _ _ (rw later at (at-each goesUnder entryCount all-go n h))
 
 -- past the first n entries they are set and the others are not
 
@@ -178,7 +182,7 @@ valueIn e i = getD e i 0
 record Reached (e text : List ℕ) (n : ℕ) : Type 0 where
   places : List ℕ
   reads : Reads text 0 (entryTexts e n) (start .state)
-      (state (stands (groupAfter n) entryCount) (table (valueIn e) n ++ drop n (table usually entryCount)) places)
+      (state (stands (titleAfter n) entryCount) (table (valueIn e) n ++ drop n (table usually entryCount)) places)
   none : (i : ℕ) → n ≤ i → getD places i 0 ≡ 0
 
 zeros : (n i : ℕ) → _≡_ {A = ℕ} (getD (replicate n 0) i 0) 0
@@ -195,9 +199,9 @@ module _ (e text : List ℕ) (fits : AllBelow notNumber e) where
       let value = valueIn e n in
       let usual = table usually entryCount in
       let entries = table (valueIn e) n ++ drop n usual in
-      let set-one = rw add-one at (filled-more (valueIn e) usual n (rw (length-table usually entryCount) h)) in
+      let set-one = rw (add-one n) at (filled-more (valueIn e) usual n (rw (length-table usually entryCount) h)) in
       let unread = r .none n (omega arith) in
-      let entry = reads-entry text at n (groupAfter n) entries (r .places) h (same-group n) value (fits n) unread has in
+      let entry = reads-entry text at n (titleAfter n) entries (r .places) h (same-title n h) value (fits n) unread has in
       record {
         places = set (r .places) n _;
         reads = reads-both text 0 (entryTexts e n) (entryText n value) (r .reads) (rw set-one at entry);
@@ -217,7 +221,7 @@ module _ (e text : List ℕ) (fits : AllBelow notNumber e) where
       one-more n (omega arith) (has-second text 0 (entryTexts e n) entry has)
       (reached n (omega arith) (has-first text 0 (entryTexts e n) entry has))
 
--- any 81 numbers of 32 bits, written and read
+-- as many numbers of 32 bits as there are entries, written and read
 
 module _ (e : List ℕ) (size : length e ≡ entryCount) (fits : AllBelow (2 ^ 32) e) where
   all-reached : Reached e (junctionText e) entryCount
@@ -230,8 +234,8 @@ module _ (e : List ℕ) (size : length e ≡ entryCount) (fits : AllBelow (2 ^ 3
       rw (length-table usually entryCount) at (filled-all value (table usually entryCount))
       ∙ ext-getD 0 (table value entryCount) e (l ∙ sym size) (λ i h. table-at value entryCount i (omega arith))
 
-  parsed-back : parsed (junctionText e) ≡ state (stands 16 entryCount) e (all-reached .places)
-  unfolding parsed ended wordTaken scanned
+  parsed-back : parsed (junctionText e) ≡ state (stands (junction .title) entryCount) e (all-reached .places)
+  unfolding parsed ended wordTaken scanned classAt
   parsed-back =
       let end = length (junctionText e) in
       rw (rw (zero-add, all-set) at (all-reached .reads refl), le-ltb end end (omega arith))
@@ -240,8 +244,8 @@ module _ (e : List ℕ) (size : length e ≡ entryCount) (fits : AllBelow (2 ^ 3
   pub entries-back : parsed (junctionText e) .entries ≡ e
   entries-back = rw parsed-back
 
-  -- nothing is wrong with the text: at its end the reader stands in the last group, and waits for no value
-  pub reads-well : parsed (junctionText e) .reader ≡ stands 16 entryCount
+  -- nothing is wrong with the text: at its end the reader stands under the last title, and waits for no value
+  pub reads-well : parsed (junctionText e) .reader ≡ stands (junction .title) entryCount
   reads-well = rw parsed-back
 
   -- so the text of acceptable entries is read, and leaves them
