@@ -121,29 +121,29 @@ pub fn row_of(word: &[u8]) -> u32
 }
 
 // A class of titles: its first title, its first entry, how many entries each of its titles has, its first kind.
-struct Class {
-    title: u32,
-    entry: u32,
-    width: u32,
-    kind: u32,
+pub struct Class {
+    pub title: u32,
+    pub entry: u32,
+    pub width: u32,
+    pub kind: u32,
 }
 
 impl Class {
-    const MOVEMENTS: Class = Class {
+    pub const MOVEMENTS: Class = Class {
         title: 0,
         entry: 0,
         width: layout::MOVEMENT_ENTRIES as u32,
         kind: 0,
     };
 
-    const APPROACHES: Class = Class {
+    pub const APPROACHES: Class = Class {
         title: layout::MOVEMENTS as u32,
         entry: layout::APPROACHES_FROM as u32,
         width: layout::APPROACH_ENTRIES as u32,
         kind: layout::MOVEMENT_ENTRIES as u32,
     };
 
-    const JUNCTION: Class = Class {
+    pub const JUNCTION: Class = Class {
         title: (layout::MOVEMENTS + layout::APPROACHES) as u32,
         entry: layout::CYCLE_ENTRY as u32,
         width: JUNCTION_ENTRIES as u32,

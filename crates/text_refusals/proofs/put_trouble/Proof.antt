@@ -1,4 +1,4 @@
--- `says::put_trouble`. The sentence of each case.
+-- `text_refusals::put_trouble`. The sentence of each case.
 use Rattle.text_refusals.proofs.Laws.{trouble-placed}
 use Rattle.text.specs.Text.{ascii}
 use borrow.Author.Needs.{needs}
@@ -12,7 +12,7 @@ put-trouble-spec =
     (tie.spec (search needs) (search needs) (search needs) (search needs) (search needs) (search needs)
     (search needs) (search needs) (search needs) (search needs) (search needs) (search needs) (search needs)
     (search needs) (search needs) (search needs) (search needs) (search needs) (search needs) (search needs)
-    (search needs) (search needs) (λ c. search trouble-placed) (search needs) (λ c. search trouble-placed)
-    (search needs) (λ c. search trouble-placed) (search needs) (λ c. search trouble-placed) (search needs)
-    (λ c. search trouble-placed) (search needs) (λ c. search trouble-placed) (search needs)
-    (λ c. search trouble-placed))
+    (search needs) (search needs) (λ c. (search trouble-placed, search needs)) (search needs) (λ c. (search trouble-placed, search needs))
+    (search needs) (λ c. (search trouble-placed, search needs)) (search needs) (λ c. (search trouble-placed, search needs)) (search needs)
+    (λ c. (search trouble-placed, search needs)) (search needs) (λ c. (search trouble-placed, search needs)) (search needs)
+    (λ c. (search trouble-placed, search needs)))

@@ -1,13 +1,13 @@
--- `says::place_of`. The loop's invariant: the line and the column past the bytes passed.
-use Rattle.text_refusals.proofs.Laws.{line-fed, line-kept, column-fed, column-more}
-use Rattle.text_refusals.specs.Says.{lineAt, columnAt}
+-- `text_places::position_of`. The loop's invariant: the line and the column past the bytes passed.
+use Rattle.text_places.proofs.Laws.{line-fed, line-kept, column-fed, column-more}
+use Rattle.text_places.specs.Places.{lineAt, columnAt}
 use borrow.Author.Needs.{needs}
 use native.Mathlib.Omega.{arith}
 use Prim.Native.Nat.{_≤_, _-_}
 use mathlib.Core.Logic.{⊎-elim}
 use mathlib.Core.Path.{_≡_, refl, _∙_}
-use Rattle.text_refusals.proofs.place_of.Statement.{statement}
-use Rattle.text_refusals.proofs.place_of.Tie as tie
+use Rattle.text_places.proofs.position_of.Statement.{statement}
+use Rattle.text_places.proofs.position_of.Tie as tie
 
 abbrev Inv-loop : tie.InvT-loop
 Inv-loop text byte line₀ column₀ i₀ line column i = (i ≤ byte) × (line ≡ lineAt text i) × (column ≡ columnAt text i)
@@ -38,8 +38,8 @@ returns c =
     let end : c .before .loop .i ≡ c .before .before .before .args .byte = omega arith in
     (rw end at (c .before .loop .inv .1), rw end at (c .before .loop .inv .2))
 
-pub place-of-spec : {M : Type 1} → statement M
-place-of-spec =
+pub position-of-spec : {M : Type 1} → statement M
+position-of-spec =
     tie.close
     (tie.spec Inv-loop μ-loop loop-holds (search needs) (search needs) (search needs) (search needs) (search needs)
     loop-again returns)

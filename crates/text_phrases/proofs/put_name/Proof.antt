@@ -1,12 +1,12 @@
--- `says::put_name`. The word of a row that the table has, or nothing.
+-- `text_phrases::put_name`. The word of a row that the table has, or nothing.
 use Rattle.text_names.proofs.Laws.{length-word}
-use Rattle.text_refusals.proofs.Laws.{placed-nothing}
-use Rattle.text_refusals.specs.Says.{nameIn}
+use Rattle.text_phrases.proofs.Laws.{placed-nothing}
+use Rattle.text_phrases.specs.Phrases.{nameIn}
 use borrow.Author.Needs.{needs}
 use borrow.Author.Tests.{lt-ltb, le-ltb}
 use native.Mathlib.Omega.{arith}
-use Rattle.text_refusals.proofs.put_name.Statement.{statement}
-use Rattle.text_refusals.proofs.put_name.Tie as tie
+use Rattle.text_phrases.proofs.put_name.Statement.{statement}
+use Rattle.text_phrases.proofs.put_name.Tie as tie
 
 returns : tie.Need-returns
 unfolding nameIn
