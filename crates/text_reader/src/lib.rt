@@ -150,7 +150,9 @@ fn entry_at(counted: Place, place: u32) -> usize
 {
     let place = place as usize;
     match counted {
-        Place::OfApproaches => layout::APPROACHES_FROM + layout::APPROACH_ENTRIES * place + layout::SHARED_NO,
+        Place::OfApproaches => layout::APPROACHES_FROM
+            + layout::APPROACH_ENTRIES * place
+            + layout::SHARED_NO,
         Place::OfMovements => layout::MOVEMENT_ENTRIES * place + layout::VOLUME_NO,
         Place::OfNothing => place,
         Place::OfEntries => place,

@@ -65,7 +65,12 @@ fn put_file(out: &mut [u8], at: usize, place: u32) -> usize
     requires { ⌜ at + whyMost ≤ length (now out) ⌝ }
     ensures { λ r. ⌜ Placed (now (out .entry)) at (fileText place) (now (out .exit)) r × (r ≤ at + whyMost) ⌝ }
 {
-    let end = text_phrases::put_numbered(out, at, b"the study file is badly laid out at byte ", place);
+    let end = text_phrases::put_numbered(
+        out,
+        at,
+        b"the study file is badly laid out at byte ",
+        place,
+    );
     text::put_byte(out, end, b'\n')
 }
 
@@ -83,7 +88,12 @@ fn put_why(out: &mut [u8], at: usize, why: Refusal, place: u32) -> usize
             approach_row(place),
             b": a shared lane needs a through lane and no left lane beside it\n",
         ),
-        Refusal::NoLane => text_phrases::put_named(out, at, place, b": vehicles, and no lane that takes them\n"),
+        Refusal::NoLane => text_phrases::put_named(
+            out,
+            at,
+            place,
+            b": vehicles, and no lane that takes them\n",
+        ),
         Refusal::File => put_file(out, at, place),
     }
 }
