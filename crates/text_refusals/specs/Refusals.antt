@@ -14,20 +14,9 @@ use Rattle.text.specs.Text.{ascii}
 use Rattle.text_names.specs.Names.{wordCount, approaches}
 use Rattle.text_phrases.specs.Phrases.{numbered, nameIn, entryName}
 use Rattle.text_places.specs.Places.{placeText}
-use Rattle.text_words.specs.declared.Trouble.{Trouble}
-use Rattle.text_words.specs.declared.Trouble.the-variants.{Unknown, NoTitle, NotOfTitle, Twice, NotNumber, Ends, TooLong}
+use Rattle.text_troubles.specs.Troubles.{troubleText}
 use Rattle.text_reader.specs.declared.Reading.{Reading}
 use Rattle.text_reader.specs.declared.Reading.the-variants.{Read, Misread, Refused}
-
--- a row for each trouble of a text
-abbrev pub troubleText : Trouble → List ℕ
-troubleText Unknown = ascii "no movement, approach or entry has this name\n"
-troubleText NoTitle = ascii "name a movement, an approach or the junction before its entries\n"
-troubleText NotOfTitle = ascii "what was named before has no such entry\n"
-troubleText Twice = ascii "this entry was written before\n"
-troubleText NotNumber = ascii "a whole number is expected here\n"
-troubleText Ends = ascii "the text ends where a number is expected\n"
-troubleText TooLong = ascii "a text has at most 65535 bytes\n"
 
 -- "EBL lanes is outside 0 to 6"
 unfoldable pub rangeText : ℕ → List ℕ

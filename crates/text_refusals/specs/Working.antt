@@ -2,10 +2,6 @@
 use Prim.Native.Nat.{ℕ, _+_}
 use Rattle.text.specs.Text.{digitMost}
 
--- no sentence of a trouble is longer: that of a missing title has as many bytes
-abbrev pub troubleMost : ℕ
-troubleMost = 64
-
 -- the longest sentence of a refusal, a shared lane's, has 82; the rest is room for another
 abbrev pub whyMost : ℕ
 whyMost = 96

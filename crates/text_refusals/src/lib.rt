@@ -3,42 +3,14 @@ ghost use Prim.Native.Nat.{_+_, _≤_};
 ghost use mathlib.Core.Path.{_≡_};
 ghost use lib.ListN.{length};
 ghost use Rattle.text.specs.Text.{Placed};
-ghost use Rattle.text_refusals.specs.Refusals.{troubleText, rangeText, approachRow, fileText, whyText, refusalText, answerText, readingText};
-ghost use Rattle.text_refusals.specs.Working.{troubleMost, whyMost, refusalMost};
+ghost use Rattle.text_refusals.specs.Refusals.{rangeText, approachRow, fileText, whyText, refusalText, answerText, readingText};
+ghost use Rattle.text_refusals.specs.Working.{whyMost, refusalMost};
 use answers::Answer;
 use answers::Refusal;
 use text_reader::Reading;
-use text_words::Trouble;
 
 // Room for anything that is said: a place, and a refusal or a trouble.
 pub const SAYING_BYTES: usize = 256;
-
-fn put_trouble(out: &mut [u8], at: usize, why: Trouble) -> usize
-    requires { ⌜ at + troubleMost ≤ length (now out) ⌝ }
-    ensures { λ r. ⌜ Placed (now (out .entry)) at (troubleText why) (now (out .exit)) r × (r ≤ at + troubleMost) ⌝ }
-{
-    match why {
-        Trouble::Unknown => text::put_bytes(
-            out,
-            at,
-            b"no movement, approach or entry has this name\n",
-        ),
-        Trouble::NoTitle => text::put_bytes(
-            out,
-            at,
-            b"name a movement, an approach or the junction before its entries\n",
-        ),
-        Trouble::NotOfTitle => text::put_bytes(
-            out,
-            at,
-            b"what was named before has no such entry\n",
-        ),
-        Trouble::Twice => text::put_bytes(out, at, b"this entry was written before\n"),
-        Trouble::NotNumber => text::put_bytes(out, at, b"a whole number is expected here\n"),
-        Trouble::Ends => text::put_bytes(out, at, b"the text ends where a number is expected\n"),
-        Trouble::TooLong => text::put_bytes(out, at, b"a text has at most 65535 bytes\n"),
-    }
-}
 
 fn put_range(out: &mut [u8], at: usize, entry: u32) -> usize
     requires { ⌜ at + whyMost ≤ length (now out) ⌝ }
@@ -125,7 +97,7 @@ pub fn say_reading(text: &[u8], reading: Reading, out: &mut [u8; SAYING_BYTES]) 
         Reading::Read => 0,
         Reading::Misread(why, byte) => {
             let at = text_places::put_place(out, text, byte);
-            put_trouble(out, at, why)
+            text_troubles::put_trouble(out, at, why)
         }
         Reading::Refused(why, place, byte) => {
             let at = text_places::put_place(out, text, byte);
