@@ -13,7 +13,7 @@ use Rattle.lists.proofs.Laws.{over-none}
 use Rattle.text.proofs.Laws.{placed-next}
 use Rattle.lists.proofs.Tests.{both-true, holds-below, at-each}
 use Rattle.layout.specs.Entries.{entryCount}
-use Rattle.text_names.specs.Names.{wordByte, wordIn, wordOf, wordWidth, wordCount, padded, agrees, isWord, foundIn}
+use Rattle.text_names.specs.Names.{space, wordByte, wordIn, wordOf, wordWidth, wordCount, padded, agrees, isWord, foundIn}
 use Rattle.text_names.specs.Names.{titleCount, kindCount, classOf, classAt, hasKind, entryIn, entryUnder, titleOf, kindOf}
 use Rattle.text_names.specs.Working.{OfTitle}
 use Rattle.text_names.specs.declared.Class.{Class}
@@ -34,7 +34,7 @@ module _ (row : ℕ) where
   pub length-wordIn : (n : ℕ) → length (wordIn row n) ≤ n
   unfolding wordIn
   length-wordIn zero = omega arith
-  length-wordIn (suc n) = length-next n (eqb (wordByte row n) 32) (length-wordIn n)
+  length-wordIn (suc n) = length-next n (eqb (wordByte row n) space) (length-wordIn n)
 
   pub length-word : length (wordOf row) ≤ wordWidth
   length-word = length-wordIn wordWidth
@@ -45,14 +45,14 @@ module _ (row : ℕ) where
   word-none list at = record { is = over-none list at; next = omega arith }
 
   module _ (n byte : ℕ) (e : byte ≡ wordByte row n) {list one : List ℕ} {at past : ℕ} (p : Placed list at (wordIn row n) one past) where
-    pub word-blank : byte ≡ 32 → Placed list at (wordIn row (n + 1)) one past
+    pub word-blank : byte ≡ space → Placed list at (wordIn row (n + 1)) one past
     unfolding wordIn
-    word-blank blank = rw (add-one n, ← e, eq-eqb byte 32 blank, append-nil) p
+    word-blank blank = rw (add-one n, ← e, eq-eqb byte space blank, append-nil) p
 
-    pub word-more : {two : List ℕ} {end : ℕ} → (byte ≡ 32 → ⊥) → at + n < length list → Placed one past (byte ∷ []) two end
+    pub word-more : {two : List ℕ} {end : ℕ} → (byte ≡ space → ⊥) → at + n < length list → Placed one past (byte ∷ []) two end
         → Placed list at (wordIn row (n + 1)) two end
     unfolding wordIn
-    word-more black room q = rw (add-one n, ← e, ne-eqb byte 32 black) (placed-next p q (omega (arith, length-wordIn n)))
+    word-more black room q = rw (add-one n, ← e, ne-eqb byte space black) (placed-next p q (omega (arith, length-wordIn n)))
 
 -- a word and a row, byte by byte
 

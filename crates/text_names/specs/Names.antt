@@ -9,6 +9,13 @@ use Rattle.text.specs.Text.{joined}
 use Rattle.layout.specs.Entries.{approachCount, movementCount, movementEntries, approachesFrom, approachEntries, cycleEntry, entryCount}
 use Rattle.text_names.specs.declared.Class.{Class}
 
+-- what parts the words of a text, and its lines
+abbrev pub space : ℕ
+space = 32
+
+abbrev pub lineFeed : ℕ
+lineFeed = 10
+
 -- the titles, in the entries' order; then the kinds of the entries that stand under each
 abbrev pub rows : List String
 rows =
@@ -70,7 +77,7 @@ wordByte row i = getD wordTable (wordWidth * row + i) 0
 -- the first n bytes of a row, without blanks
 unfoldable pub wordIn : ℕ → ℕ → List ℕ
 wordIn row zero = []
-wordIn row (suc n) = wordIn row n ++ cond (eqb (wordByte row n) 32) [] (wordByte row n ∷ [])
+wordIn row (suc n) = wordIn row n ++ cond (eqb (wordByte row n) space) [] (wordByte row n ∷ [])
 
 -- the word in a row
 abbrev pub wordOf : ℕ → List ℕ
@@ -78,7 +85,7 @@ wordOf row = wordIn row wordWidth
 
 -- byte i of a word, blanks past its end
 abbrev pub padded : List ℕ → ℕ → ℕ
-padded word i = getD word i 32
+padded word i = getD word i space
 
 -- the first n bytes of a word are those of the row
 unfoldable pub agrees : List ℕ → ℕ → ℕ → Bool

@@ -4,7 +4,7 @@ use mathlib.Core.Bool.{cond}
 use mathlib.Core.List.{List, [], _∷_, _++_}
 use lib.Dec.{ltb}
 use Rattle.text.specs.Text.{decimal}
-use Rattle.text_names.specs.Names.{wordCount, titleCount, wordOf, titleOf, kindOf}
+use Rattle.text_names.specs.Names.{space, wordCount, titleCount, wordOf, titleOf, kindOf}
 
 -- words, and a number just past them
 unfoldable pub numbered : List ℕ → ℕ → List ℕ
@@ -16,4 +16,4 @@ nameIn row = cond (ltb row wordCount) (wordOf row) []
 
 -- "EBL lanes"
 abbrev pub entryName : ℕ → List ℕ
-entryName entry = nameIn (titleOf entry) ++ (32 ∷ []) ++ nameIn (titleCount + kindOf entry)
+entryName entry = nameIn (titleOf entry) ++ (space ∷ []) ++ nameIn (titleCount + kindOf entry)

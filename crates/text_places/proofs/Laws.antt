@@ -5,7 +5,8 @@ use mathlib.Core.List.{List}
 use lib.ListN.{getD}
 use borrow.Author.Tests.{eq-eqb, ne-eqb}
 use native.Mathlib.Numerals.{add-one}
-use Rattle.text_places.specs.Places.{lineFeed, more, lineAt, columnAt}
+use Rattle.text_names.specs.Names.{lineFeed}
+use Rattle.text_places.specs.Places.{more, lineAt, columnAt}
 
 module _ (text : List ℕ) (n : ℕ) where
   pub line-fed : {line : ℕ} → getD text n 0 ≡ lineFeed → line ≡ lineAt text n → more line ≡ lineAt text (n + 1)

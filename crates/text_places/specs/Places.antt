@@ -5,10 +5,8 @@ use mathlib.Core.List.{List, _++_}
 use lib.ListN.{length, getD}
 use lib.Dec.{eqb}
 use Rattle.text.specs.Text.{ascii}
+use Rattle.text_names.specs.Names.{lineFeed}
 use Rattle.text_phrases.specs.Phrases.{numbered}
-
-abbrev pub lineFeed : ℕ
-lineFeed = 10
 
 -- one more, as far as 32 bits go
 abbrev pub more : ℕ → ℕ

@@ -15,7 +15,7 @@ use Rattle.answers.specs.declared.Place.the-variants.{OfNothing, OfEntries, OfA
 use Rattle.answers.specs.declared.Refusal.{Refusal}
 use Rattle.kinds.specs.Kinds.{limitsOf, kindAt}
 use Rattle.entries.specs.Judging.{judged}
-use Rattle.text_names.specs.Names.{titleCount}
+use Rattle.text_names.specs.Names.{space, lineFeed, titleCount}
 use Rattle.text_words.specs.Words.{stands, wrong, unless, State, state, taken}
 use Rattle.text_words.specs.declared.Trouble.{Trouble}
 use Rattle.text_words.specs.declared.Trouble.the-variants.{Ends, TooLong}
@@ -25,15 +25,19 @@ use Rattle.text_words.specs.declared.Reader.{Reader}
 use Rattle.text_reader.specs.declared.Reading.{Reading}
 use Rattle.text_reader.specs.declared.Reading.the-variants.{Read, Misread, Refused}
 
-abbrev pub lineFeed : ℕ
-lineFeed = 10
+abbrev pub tab : ℕ
+tab = 9
 
+abbrev pub carriageReturn : ℕ
+carriageReturn = 13
+
+-- it begins a comment
 abbrev pub hash : ℕ
 hash = 35
 
 -- space, tab, carriage return and line feed part the words
 abbrev pub isBlank : ℕ → Bool
-isBlank byte = eqb byte 32 || eqb byte 9 || eqb byte 13 || eqb byte lineFeed
+isBlank byte = eqb byte space || eqb byte tab || eqb byte carriageReturn || eqb byte lineFeed
 
 abbrev pub endsWord : ℕ → Bool
 endsWord byte = isBlank byte || eqb byte hash

@@ -67,7 +67,8 @@ fn take_word(
     places: &mut [usize],
 ) -> Reader
     requires { ⌜ (n ≤ length (now text)) × (length (now entries) ≡ entryCount) × (length (now places) ≡ entryCount) ⌝ }
-    ensures { λ r. ⌜ state r (now (entries .exit)) (now (places .exit)) ≡ wordTaken (now (text .entry)) n (scan cursor (now (entries .entry)) (now (places .entry))) ⌝ }
+    ensures { λ r. ⌜ state r (now (entries .exit)) (now (places .exit))
+        ≡ wordTaken (now (text .entry)) n (scan cursor (now (entries .entry)) (now (places .entry))) ⌝ }
 {
     let begun = cursor.begun;
     if begun < n {
@@ -79,7 +80,8 @@ fn take_word(
 // Goes past one byte.
 fn go_on(text: &[u8], n: usize, cursor: Cursor, entries: &mut [u32], places: &mut [usize]) -> Cursor
     requires { ⌜ (n < length (now text)) × (length (now entries) ≡ entryCount) × (length (now places) ≡ entryCount) ⌝ }
-    ensures { λ r. ⌜ scan r (now (entries .exit)) (now (places .exit)) ≡ next (now (text .entry)) n (scan cursor (now (entries .entry)) (now (places .entry))) ⌝ }
+    ensures { λ r. ⌜ scan r (now (entries .exit)) (now (places .exit))
+        ≡ next (now (text .entry)) n (scan cursor (now (entries .entry)) (now (places .entry))) ⌝ }
 {
     let byte = text[n];
     if cursor.quiet {

@@ -2,6 +2,7 @@
 use mathlib.Core.Path.{_≡_, refl}
 use Rattle.answers.specs.declared.Refusal.the-variants.{Range, Shared, NoLane}
 use Rattle.answers.specs.declared.Answer.the-variants.{Refused as No}
+use Rattle.layout.specs.Entries.{buttonNo, cycleEntry, approachPlace, through, EB, NB}
 use Rattle.kinds.specs.Kinds.{kindAt}
 use Rattle.text_names.specs.Names.{wordTable, wordIn, classAt}
 use Rattle.text_words.specs.declared.Trouble.the-variants.{NotNumber}
@@ -11,15 +12,15 @@ use Rattle.text_phrases.specs.Phrases.{numbered, nameIn}
 use Rattle.text_places.specs.Places.{lineAt, columnAt, placeText}
 use Rattle.text_refusals.specs.Refusals.{rangeText, whyText, refusalText, answerText, readingText}
 
-range : answerText (No Range 62) ≡ ascii "R3: EB push-button is outside 0 to 1\n"
+range : answerText (No Range (approachPlace EB buttonNo)) ≡ ascii "R3: EB push-button is outside 0 to 1\n"
 unfolding ascii joined digits decimal numbered kindAt classAt wordTable wordIn nameIn rangeText whyText refusalText
 range = refl
 
-shared : answerText (No Shared 2) ≡ ascii "R4: NB: a shared lane needs a through lane and no left lane beside it\n"
+shared : answerText (No Shared NB) ≡ ascii "R4: NB: a shared lane needs a through lane and no left lane beside it\n"
 unfolding ascii joined digits decimal numbered wordTable wordIn nameIn whyText refusalText
 shared = refl
 
-noLane : answerText (No NoLane 7) ≡ ascii "R5: NBT: vehicles, and no lane that takes them\n"
+noLane : answerText (No NoLane (through NB)) ≡ ascii "R5: NBT: vehicles, and no lane that takes them\n"
 unfolding ascii joined digits decimal numbered wordTable wordIn nameIn whyText refusalText
 noLane = refl
 
@@ -27,6 +28,6 @@ misread : readingText (ascii "EBL lanes 2\nvolume x") (Misread NotNumber 19) ≡
 unfolding ascii digits decimal numbered lineAt columnAt placeText
 misread = refl
 
-refused : readingText (ascii "junction cycle 29") (Refused Range 80 15) ≡ ascii "line 1, column 16: R3: junction cycle is outside 30 to 240\n"
+refused : readingText (ascii "junction cycle 29") (Refused Range cycleEntry 15) ≡ ascii "line 1, column 16: R3: junction cycle is outside 30 to 240\n"
 unfolding ascii joined digits decimal numbered lineAt columnAt placeText kindAt classAt wordTable wordIn nameIn rangeText whyText refusalText
 refused = refl

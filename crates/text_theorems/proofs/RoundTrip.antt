@@ -17,19 +17,19 @@ use Rattle.lists.proofs.Laws.{length-table, table-at, filled-more, filled-all}
 use Rattle.lists.proofs.Tests.{holds-below, both-true, at-each}
 use Rattle.answers.specs.declared.Answer.the-variants.{Accepted}
 use Rattle.entries.specs.Judging.{judged}
-use Rattle.text.specs.Text.{ascii, joined, decimal, numberThen}
+use Rattle.text.specs.Text.{ascii, joined, digit, decimal, numberThen}
 use Rattle.text.proofs.Laws.{decimal-digits}
 use Rattle.text_numbers.specs.Numbers.{notNumber}
 use Rattle.text_numbers.proofs.Laws.{decimal-some, number-read}
-use Rattle.text_names.specs.Names.{titleCount, wordCount, wordTable, wordIn, wordOf, agrees, isWord, foundIn, rowOf, junction}
+use Rattle.text_names.specs.Names.{space, lineFeed, titleCount, wordCount, wordTable, wordIn, wordOf, agrees, isWord, foundIn, rowOf, junction}
 use Rattle.text_names.specs.Names.{classAt, titleOf, kindOf, isFirst, isLast}
 use Rattle.text_names.proofs.Laws.{in-place}
 use Rattle.text_words.specs.Words.{stands, State, state}
 use Rattle.text_words.proofs.Laws.{title-named, kind-named, value-set}
-use Rattle.text_reader.specs.Reader.{endsWord, wordTaken, scanned, start, usually}
+use Rattle.text_reader.specs.Reader.{tab, carriageReturn, hash, endsWord, wordTaken, scanned, start, usually}
 use Rattle.text_reader.specs.Reader.{ended, parsed, textMost, shortReading, reading, keptUnlessRead}
 use Rattle.text_reader.specs.declared.Reading.the-variants.{Read}
-use Rattle.text_writer.specs.Writer.{space, lineFeed, opening, closing, entryText, entryTexts, junctionText}
+use Rattle.text_writer.specs.Writer.{opening, closing, entryText, entryTexts, junctionText}
 use Rattle.text_writer.proofs.Laws.{length-entryTexts}
 use Rattle.text_theorems.proofs.Reading.{Has, has-first, has-second, Reads, reads-both, Word, Blank, reads-word}
 
@@ -68,14 +68,14 @@ in-table row h =
 
 -- a number is one word of a text
 
-plain-digit : (byte : ℕ) → 48 ≤ byte → byte < 58 → endsWord byte ≡ false
+plain-digit : (byte : ℕ) → digit 0 ≤ byte → byte < digit 10 → endsWord byte ≡ false
 plain-digit byte low high =
     simp (
-      ne-eqb byte 32 (λ e. omega arith),
-      ne-eqb byte 9 (λ e. omega arith),
-      ne-eqb byte 13 (λ e. omega arith),
-      ne-eqb byte 10 (λ e. omega arith),
-      ne-eqb byte 35 (λ e. omega arith),
+      ne-eqb byte space (λ e. omega arith),
+      ne-eqb byte tab (λ e. omega arith),
+      ne-eqb byte carriageReturn (λ e. omega arith),
+      ne-eqb byte lineFeed (λ e. omega arith),
+      ne-eqb byte hash (λ e. omega arith),
     )
 
 decimal-word : (number : ℕ) → number < notNumber → Word (decimal number)

@@ -93,7 +93,8 @@ fn take_value(
     places: &mut [usize],
 ) -> Reader
     requires { ⌜ (place < 2 ^ 64 - 1) × (reader .wanted < entryCount) × (length (now entries) ≡ entryCount) × (length (now places) ≡ entryCount) ⌝ }
-    ensures { λ r. ⌜ state r (now (entries .exit)) (now (places .exit)) ≡ takenValue place (now (word .entry)) (state reader (now (entries .entry)) (now (places .entry))) ⌝ }
+    ensures { λ r. ⌜ state r (now (entries .exit)) (now (places .exit))
+        ≡ takenValue place (now (word .entry)) (state reader (now (entries .entry)) (now (places .entry))) ⌝ }
 {
     let number = text_numbers::number_of(word);
     if NOT_NUMBER <= number {
@@ -114,7 +115,8 @@ pub fn take(
     places: &mut [usize],
 ) -> Reader
     requires { ⌜ (place < 2 ^ 64 - 1) × (length (now entries) ≡ entryCount) × (length (now places) ≡ entryCount) ⌝ }
-    ensures { λ r. ⌜ state r (now (entries .exit)) (now (places .exit)) ≡ taken place (now (word .entry)) (state reader (now (entries .entry)) (now (places .entry))) ⌝ }
+    ensures { λ r. ⌜ state r (now (entries .exit)) (now (places .exit))
+        ≡ taken place (now (word .entry)) (state reader (now (entries .entry)) (now (places .entry))) ⌝ }
 {
     let found = reader.found;
     let Found::Well = found else {

@@ -9,9 +9,9 @@ use native.Mathlib.Omega.{arith}
 use Rattle.lists.proofs.Laws.{over-nothing}
 use Rattle.text.specs.Text.{numberThen, Placed}
 use Rattle.text.proofs.Laws.{length-numberThen, placed-next}
-use Rattle.text_names.specs.Names.{wordWidth, titleCount, wordOf, titleOf, kindOf, isFirst}
+use Rattle.text_names.specs.Names.{space, wordWidth, titleCount, wordOf, titleOf, kindOf, isFirst}
 use Rattle.text_names.proofs.Laws.{length-word}
-use Rattle.text_writer.specs.Writer.{space, opening, closing, entryText, entryTexts}
+use Rattle.text_writer.specs.Writer.{opening, closing, entryText, entryTexts}
 use Rattle.text_writer.specs.Working.{openingMost, entryMost}
 
 -- where a word ends that was put

@@ -5,13 +5,7 @@ use mathlib.Core.List.{List, [], _∷_, _++_}
 use lib.ListN.{getD}
 use Rattle.layout.specs.Entries.{entryCount}
 use Rattle.text.specs.Text.{numberThen}
-use Rattle.text_names.specs.Names.{titleCount, wordOf, titleOf, kindOf, isFirst, isLast}
-
-abbrev pub space : ℕ
-space = 32
-
-abbrev pub lineFeed : ℕ
-lineFeed = 10
+use Rattle.text_names.specs.Names.{space, lineFeed, titleCount, wordOf, titleOf, kindOf, isFirst, isLast}
 
 -- a title stands before its first entry
 unfoldable pub opening : ℕ → List ℕ

@@ -11,11 +11,25 @@ returns c = record { is = rw (lt-ltb _ _ (c .if1 .taken)); from = omega arith; b
 
 returns-2 : tie.Need-returns-2
 unfolding classAt
-returns-2 c = record { is = rw (le-ltb _ _ (c .before .before .if1 .left), lt-ltb _ _ (c .if2 .taken)); from = omega arith; before = lit≤ tt; some = lit≤ tt; kinds = lit≤ tt }
+returns-2 c =
+    record {
+      is = rw (le-ltb _ _ (c .before .before .if1 .left), lt-ltb _ _ (c .if2 .taken));
+      from = omega arith;
+      before = lit≤ tt;
+      some = lit≤ tt;
+      kinds = lit≤ tt;
+    }
 
 returns-3 : tie.Need-returns-3
 unfolding classAt
-returns-3 c = record { is = rw (le-ltb _ _ (c .before .before .if1 .left), le-ltb _ _ (c .if2 .left)); from = omega arith; before = lit≤ tt; some = lit≤ tt; kinds = lit≤ tt }
+returns-3 c =
+    record {
+      is = rw (le-ltb _ _ (c .before .before .if1 .left), le-ltb _ _ (c .if2 .left));
+      from = omega arith;
+      before = lit≤ tt;
+      some = lit≤ tt;
+      kinds = lit≤ tt;
+    }
 
 pub of-entry-spec : {M : Type 1} → statement M
 of-entry-spec = tie.close (tie.spec returns returns-2 returns-3)
