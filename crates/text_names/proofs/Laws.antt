@@ -98,7 +98,7 @@ all-fit : holds-below (λ title. holds-below (fits title) kindCount) titleCount 
 unfolding fits classOf
 all-fit = refl
 
-pub entry-fits : (title kind : ℕ) → title < titleCount → kind < kindCount → hasKind title kind ≡ true → entryIn title kind < entryCount
+entry-fits : (title kind : ℕ) → title < titleCount → kind < kindCount → hasKind title kind ≡ true → entryIn title kind < entryCount
 unfolding fits
 entry-fits title kind t k has =
     let each = at-each (λ title. holds-below (fits title) kindCount) titleCount all-fit title t in

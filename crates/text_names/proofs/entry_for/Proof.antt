@@ -1,3 +1,4 @@
+-- Three ways out before the kind is asked, then what the title has of it decides.
 use mathlib.Core.Path.{_≡_, sym, _∙_}
 use mathlib.Core.Bool.{Bool, cond}
 use Prim.Native.Nat.{ℕ, _-_, _≤_, _<_}

@@ -1,3 +1,4 @@
+-- Three ways to be no number, then a digit that is too much, and one that is not.
 use Rattle.text_numbers.proofs.Laws.{digit-next}
 use Rattle.text_numbers.specs.Numbers.{nextNumber}
 use borrow.Author.Tests.{lt-ltb, le-ltb, lt-leb, le-leb}

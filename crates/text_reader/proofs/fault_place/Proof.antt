@@ -1,3 +1,4 @@
+-- Past the places, an entry that is not written, and one that is.
 use lib.ListN.{List·getD-eq-default}
 use borrow.Author.Needs.{needs}
 use Rattle.text_reader.proofs.fault_place.Statement.{statement}

@@ -1,3 +1,4 @@
+-- A byte of a comment, one within a word, and one that ends it.
 use mathlib.Core.Path.{sym, _∙_}
 use borrow.Author.Tests.{not-true, not-false}
 use Rattle.text_reader.proofs.Laws.{next-within, next-ends}

@@ -1,3 +1,4 @@
+-- A word that ends here, and none.
 use Rattle.text_reader.specs.Reader.{wordTaken}
 use borrow.Author.Tests.{lt-ltb, le-ltb}
 use borrow.Author.Needs.{needs}

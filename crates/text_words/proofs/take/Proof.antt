@@ -1,3 +1,4 @@
+-- After something wrong nothing; else a value where one is due, or a name.
 use mathlib.Core.Path.{sym, _∙_}
 use Rattle.text_words.proofs.Laws.{value-taken, name-taken}
 use Rattle.text_words.specs.Words.{taken}

@@ -1,3 +1,4 @@
+-- Each class is known by the tests that lead to it; what it holds is computed.
 use Rattle.text_names.specs.Names.{classAt}
 use borrow.Author.Tests.{lt-ltb, le-ltb}
 use lib.Dec.{lit≤}
