@@ -11,7 +11,7 @@ use native.Mathlib.Nat.{add-zero, add-suc}
 use native.Mathlib.Numerals.{add-one}
 use native.Mathlib.Omega.{arith}
 use Rattle.text_words.specs.Words.{State, taken}
-use Rattle.text_reader.specs.Reader.{hash, endsWord, Scan, wordTaken, next, scanned}
+use Rattle.text_scan.specs.Scanning.{hash, endsWord, Scan, wordTaken, next, scanned}
 
 -- bytes that stand at a place of a text
 

@@ -26,8 +26,8 @@ use Rattle.text_names.specs.Names.{classAt, titleOf, kindOf, isFirst, isLast}
 use Rattle.text_names.proofs.Laws.{in-place}
 use Rattle.text_words.specs.Words.{stands, State, state}
 use Rattle.text_words.proofs.Laws.{title-named, kind-named, value-set}
-use Rattle.text_reader.specs.Reader.{tab, carriageReturn, hash, endsWord, wordTaken, scanned, start, usually}
-use Rattle.text_reader.specs.Reader.{ended, parsed, textMost, shortReading, reading, keptUnlessRead}
+use Rattle.text_scan.specs.Scanning.{tab, carriageReturn, hash, endsWord, wordTaken, scanned, start, usually, ended, parsed}
+use Rattle.text_reader.specs.Reader.{textMost, shortReading, reading, keptUnlessRead}
 use Rattle.text_reader.specs.declared.Reading.the-variants.{Read}
 use Rattle.text_writer.specs.Writer.{opening, closing, entryText, entryTexts, junctionText}
 use Rattle.text_writer.proofs.Laws.{length-entryTexts}

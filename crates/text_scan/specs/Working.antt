@@ -2,8 +2,8 @@
 use Prim.Native.Nat.{ℕ}
 use mathlib.Core.List.{List}
 use Rattle.text_words.specs.Words.{state}
-use Rattle.text_reader.specs.declared.Cursor.{Cursor}
-use Rattle.text_reader.specs.Reader.{Scan}
+use Rattle.text_scan.specs.declared.Cursor.{Cursor}
+use Rattle.text_scan.specs.Scanning.{Scan}
 
 abbrev pub scan : Cursor → List ℕ → List ℕ → Scan
 scan cursor entries places = record { state = state (cursor .reader) entries places; begun = cursor .begun; isComment = cursor .quiet }

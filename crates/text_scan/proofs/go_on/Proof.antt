@@ -1,11 +1,11 @@
 -- A byte of a comment, one within a word, and one that ends it.
 use mathlib.Core.Path.{sym, _∙_}
 use borrow.Author.Tests.{not-true, not-false}
-use Rattle.text_reader.proofs.Laws.{next-within, next-ends}
-use Rattle.text_reader.specs.Reader.{next}
+use Rattle.text_scan.proofs.Laws.{next-within, next-ends}
+use Rattle.text_scan.specs.Scanning.{next}
 use borrow.Author.Needs.{needs}
-use Rattle.text_reader.proofs.go_on.Statement.{statement}
-use Rattle.text_reader.proofs.go_on.Tie as tie
+use Rattle.text_scan.proofs.go_on.Statement.{statement}
+use Rattle.text_scan.proofs.go_on.Tie as tie
 
 returns : tie.Need-returns
 unfolding next

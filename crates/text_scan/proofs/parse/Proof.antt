@@ -1,7 +1,7 @@
--- `text_reader::parse`. The loop's invariant: the state is that of the bytes passed.
-use Rattle.text_reader.proofs.Laws.{all-parsed, scan-more}
-use Rattle.text_reader.specs.Reader.{usually, scanned}
-use Rattle.text_reader.specs.Working.{scan}
+-- `text_scan::parse`. The loop's invariant: the state is that of the bytes passed.
+use Rattle.text_scan.proofs.Laws.{all-parsed, scan-more}
+use Rattle.text_scan.specs.Scanning.{usually, scanned}
+use Rattle.text_scan.specs.Working.{scan}
 use Rattle.lists.proofs.Laws.{length-table}
 use lib.ListN.{length-replicate, length}
 use mathlib.Core.Path.{ap, _≡_, _∙_}
@@ -9,8 +9,8 @@ use Rattle.layout.specs.Entries.{entryCount}
 use native.Mathlib.Omega.{arith}
 use Prim.Native.Nat.{ℕ, _≤_, _-_}
 use borrow.Author.Needs.{needs}
-use Rattle.text_reader.proofs.parse.Statement.{statement}
-use Rattle.text_reader.proofs.parse.Tie as tie
+use Rattle.text_scan.proofs.parse.Statement.{statement}
+use Rattle.text_scan.proofs.parse.Tie as tie
 
 abbrev Inv-loop : tie.InvT-loop
 Inv-loop text entries₀ places₀ cursor₀ n₀ entries places cursor n =

@@ -1,8 +1,8 @@
-use Rattle.text_reader.specs.Reader.{ended}
+use Rattle.text_scan.specs.Scanning.{ended}
 use borrow.Author.Tests.{lt-ltb, le-ltb}
 use borrow.Author.Needs.{needs}
-use Rattle.text_reader.proofs.end.Statement.{statement}
-use Rattle.text_reader.proofs.end.Tie as tie
+use Rattle.text_scan.proofs.end.Statement.{statement}
+use Rattle.text_scan.proofs.end.Tie as tie
 
 returns : tie.Need-returns
 unfolding ended

@@ -1,9 +1,9 @@
 -- A word that ends here, and none.
-use Rattle.text_reader.specs.Reader.{wordTaken}
+use Rattle.text_scan.specs.Scanning.{wordTaken}
 use borrow.Author.Tests.{lt-ltb, le-ltb}
 use borrow.Author.Needs.{needs}
-use Rattle.text_reader.proofs.take_word.Statement.{statement}
-use Rattle.text_reader.proofs.take_word.Tie as tie
+use Rattle.text_scan.proofs.take_word.Statement.{statement}
+use Rattle.text_scan.proofs.take_word.Tie as tie
 
 returns : tie.Need-returns
 unfolding wordTaken
