@@ -1,6 +1,6 @@
 use Rattle.amend_reach.proofs.Copies.{run-next, run-over}
 use Rattle.amend_reach.proofs.Merging.{Copying, none-copied, one-copied, all-copied}
-use Rattle.amend_reach.specs.Copies.{run}
+use Rattle.amend_reach.specs.Working.{run}
 use native.Mathlib.Omega.{arith}
 use borrow.Author.Needs.{needs}
 use Prim.Native.Nat.{_+_, _-_}
