@@ -51,7 +51,8 @@ module _ (g : ℕ → ℕ) (s : Approach) (CL x : ℕ) where
   tables :
       (values (blended ownOf (own g s CL x) (lines (approachFrom g) s CL)) numberCount ≡ values (own g s CL x) numberCount)
       × (values (blended facingOf (opposed g s CL x) (lines s (approachFrom g) CL)) numberCount ≡ values (opposed g s CL x) numberCount)
-  unfolding mergedFrom lines firstLines laterLines a b volume vST fT flow sST sSL interference F reference weighted adjusted vLL q single leftShare E sA leftA optionA allowedA allowedB empty line23 sB optionB line24 line25 line26 line27 line28
+  unfolding mergedFrom lines firstLines laterLines a b volume vST fT flow sST sSL interference F reference weighted adjusted
+      vLL q single leftShare E sA leftA optionA allowedA allowedB empty line23 sB optionB line24 line25 line26 line27 line28
   tables = (refl, refl)
 
   pub own-kept :

@@ -12,7 +12,7 @@ use lib.ListN.{length, getD, set}
 use lib.Seq.{getD-set-same, getD-set-other}
 use borrow.Author.Tests.{ltb-true, ltb-false, eqb-true, eqb-false, lt-ltb, le-ltb}
 use Rattle.layout.specs.Entries.{approachCount, groupCount, movementEntries, approachesFrom, approachEntries, cycleEntry, entryCount}
-use Rattle.layout.specs.Entries.{movementPlace, approachPlace, lanesNo, volumeNo, idealNo, lostNo, greenNo}
+use Rattle.layout.specs.Entries.{left, through, right, movementPlace, approachPlace, lanesNo, volumeNo, idealNo, lostNo, greenNo}
 use Rattle.layout.specs.Entries.{sharedNo, walkersNo, buttonNo, crossingNo, freeNo}
 use Rattle.kinds.specs.declared.Kind.{Kind}
 use Rattle.kinds.specs.declared.Kind.the-variants.{Cycle}
@@ -43,9 +43,9 @@ movementFrom g m =
 abbrev pub approachFrom : (ℕ → ℕ) → Approach
 approachFrom g =
     record {
-      left = movementFrom g 0;
-      through = movementFrom g 1;
-      right = movementFrom g 2;
+      left = movementFrom g (left 0);
+      through = movementFrom g (through 0);
+      right = movementFrom g (right 0);
       shared = record { 0 = g (ownFrom + sharedNo) };
       walkers = record { 0 = g (ownFrom + walkersNo) };
       button = record { 0 = g (ownFrom + buttonNo) };

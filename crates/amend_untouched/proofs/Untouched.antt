@@ -154,7 +154,7 @@ module _ (e : List ℕ) (i v : ℕ) (long : length e ≡ entryCount) (hi : i < e
       go (no o) (yes p) paired =
           let c = (k - linesFrom) / lineCount in
           let t = (k - linesFrom) % lineCount in
-          let at : k ≡ entryCount + 28 * c + t = omega arith in
+          let at : k ≡ linesOf c + t = omega arith in
           let kept : getD (linesAt (set e i v) c (opposite c)) t 0 ≡ getD (linesAt e c (opposite c)) t 0 =
           line-untouched c t (omega arith) (omega arith) (sym (at-line i k (omega arith) p) ∙ out) in
           same-at at
