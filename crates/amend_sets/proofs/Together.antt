@@ -40,12 +40,12 @@ all-untouched (c ∷ changes) e long known k hk out =
     ∙ untouched e (c .entry) (c .value) long (two .0) k hk (off .0)
 
 -- what acceptance says
-record Taken (d : List ℕ) (changes : List Change) : Type 0 where
-  long : length d ≡ sheetCount
-  known : entriesAnswer changes ≡ Accepted
-  fine : judged (entriesWith d changes) ≡ Accepted
+pub record Taken (d : List ℕ) (changes : List Change) : Type 0 where
+  pub long : length d ≡ sheetCount
+  pub known : entriesAnswer changes ≡ Accepted
+  pub fine : judged (entriesWith d changes) ≡ Accepted
 
-taken : (d : List ℕ) (changes : List Change) → togetherAnswer d changes ≡ Accepted → Taken d changes
+pub taken : (d : List ℕ) (changes : List Change) → togetherAnswer d changes ≡ Accepted → Taken d changes
 unfolding togetherAnswer
 taken d changes accepted =
     let later = both-accepted (sheetAnswer d) (entriesAnswer changes then judged (entriesWith d changes)) accepted in
