@@ -6,7 +6,8 @@ use lib.Dec.{ltb, eqb}
 use Rattle.layout.specs.Entries.{groupCount, movementEntries, approachesFrom, approachEntries, entryCount}
 use Rattle.layout.specs.Sheet.{lineCount, linesFrom, pairCells, pairsFrom, lastFrom}
 use Rattle.kinds.specs.declared.Kind.{Kind}
-use Rattle.kinds.specs.declared.Kind.the-variants.{Lanes, Volume, IdealFlow, LostTime, MinimumGreen, SharedLane, Pedestrians, PushButton, PedestrianTime, FreeRight, Cycle}
+use Rattle.kinds.specs.declared.Kind.the-variants.{Lanes, Volume, IdealFlow, LostTime, MinimumGreen, Cycle}
+use Rattle.kinds.specs.declared.Kind.the-variants.{SharedLane, Pedestrians, PushButton, PedestrianTime, FreeRight}
 use Rattle.kinds.specs.Kinds.{kindAt}
 use Rattle.sheet_cells.specs.Cells.{opposite}
 use Rattle.amend_reach.specs.declared.Named.{Named}

@@ -188,14 +188,11 @@ fn renew_street(sheet: &mut [u32], fresh: &[u32], reach: Reach, approach: usize)
     ensures { λ _. ⌜ now (sheet .exit) ≡ mergedFrom (streetCells reach approach) 0 (now (fresh .entry)) (now (sheet .entry)) ⌝ }
 {
     let own = reach.own;
-    copy_named(sheet, fresh, own, layout::LINES_FROM + layout::LINES * approach);
+    let lines = layout::LINES_FROM + layout::LINES * approach;
+    copy_named(sheet, fresh, own, lines);
     let facing = reach.facing;
-    copy_named(
-        sheet,
-        fresh,
-        facing,
-        layout::LINES_FROM + layout::LINES * opposite_of(approach),
-    );
+    let across = layout::LINES_FROM + layout::LINES * opposite_of(approach);
+    copy_named(sheet, fresh, facing, across);
     let pair = layout::PAIRS_FROM + layout::PAIR_CELLS * (approach / 2);
     copy_if(reach.pair, sheet, fresh, pair, pair + layout::PAIR_CELLS);
     copy_run(sheet, fresh, layout::LAST_FROM, layout::CELLS);

@@ -75,7 +75,9 @@ module _ (xs : List ℕ) where
   abbrev pub Checked : ℕ → Type 0
   Checked n = entriesAnswer (changesOf xs) ≡ entriesAnswer (changesFrom n)
 
-  pub checked-one : (n : ℕ) → n < length xs / 2 → Checked n → entriesAnswer (changesOf xs) ≡ (entryAnswer (getD xs (2 * n) 0) then entriesAnswer (changesFrom (n + 1)))
+  pub checked-one :
+      (n : ℕ) → n < length xs / 2 → Checked n
+      → entriesAnswer (changesOf xs) ≡ (entryAnswer (getD xs (2 * n) 0) then entriesAnswer (changesFrom (n + 1)))
   unfolding entriesAnswer
   checked-one n h so-far = so-far ∙ rw (next-change n h)
 
@@ -89,7 +91,9 @@ module _ (xs : List ℕ) where
     pub known : entriesAnswer (changesFrom n) ≡ Accepted
     pub is : withChanges (changesOf xs) before ≡ withChanges (changesFrom n) now
 
-  pub made-one : {before now : List ℕ} (n : ℕ) → n < length xs / 2 → Made before now n → Made before (set now (getD xs (2 * n) 0) (getD xs (2 * n + 1) 0)) (n + 1)
+  pub made-one :
+      {before now : List ℕ} (n : ℕ) → n < length xs / 2 → Made before now n
+      → Made before (set now (getD xs (2 * n) 0) (getD xs (2 * n + 1) 0)) (n + 1)
   unfolding withChanges
   made-one {before} {now} n h m =
       record {

@@ -28,7 +28,8 @@ write-fresh-requires c κs =
 
 renew-changed-requires : tie.Need-renew-changed-requires
 renew-changed-requires c κs =
-    let accepted = taken _ _ (sym (c .before .before .before .before .before .before .before .before .judge-changed .ensures .0) ∙ c .before .before .before .before .before .before .enum-told .given .1) in
+    let told = c .before .before .before .before .before .before in
+    let accepted = taken _ _ (sym (told .before .before .judge-changed .ensures .0) ∙ told .enum-told .given .1) in
     (accepted .long, search needs, accepted .known)
 
 returns-2 : tie.Need-returns-2
@@ -37,7 +38,8 @@ returns-2 c =
     let judged = c .before .before .before .before .before .before .before .before .before .before .before .judge-changed .ensures in
     let accepted = c .before .before .before .before .before .before .before .before .before .enum-told .given .1 in
     let answer = sym accepted ∙ judged .0 in
-    (answer, c .before .before .renew-changed .ensures ∙ rw (c .before .before .before .before .before .before .write-fresh .ensures, judged .1 accepted) (renewed _ _ (sym answer)))
+    let fresh = c .before .before .before .before .before .before .write-fresh .ensures in
+    (answer, c .before .before .renew-changed .ensures ∙ rw (fresh, judged .1 accepted) (renewed _ _ (sym answer)))
 
 pub amend-together-spec : {M : Type 1} → statement M
 amend-together-spec =

@@ -11,10 +11,11 @@ use Rattle.amend_reach.proofs.copy_lines.Statement.{statement}
 use Rattle.amend_reach.proofs.copy_lines.Tie as tie
 
 abbrev Inv-loop : tie.InvT-loop
-Inv-loop sheet₀ fresh before lines i₀ sheet i = Copying (namedFrom before lines 0) (namedFrom before lines i) fresh sheet₀ sheet × (areLines (drop i lines) ≡ true)
+Inv-loop sheet₀ fresh first lines i₀ sheet i =
+    Copying (namedFrom first lines 0) (namedFrom first lines i) fresh sheet₀ sheet × (areLines (drop i lines) ≡ true)
 
 abbrev μ-loop : tie.MeasureT-loop
-μ-loop sheet₀ fresh before lines i₀ sheet i = length lines - i
+μ-loop sheet₀ fresh first lines i₀ sheet i = length lines - i
 
 loop-holds : tie.Need-loop-holds Inv-loop μ-loop
 loop-holds c = (none-copied (c .pre .0), c .pre .2)

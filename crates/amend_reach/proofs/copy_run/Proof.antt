@@ -20,7 +20,8 @@ loop-again : tie.Need-loop-again Inv-loop μ-loop
 loop-again c =
     let l = c .before .before .loop in
     let a = c .before .before .before .args in
-    one-copied (run (l .cell + 1) (a .to)) (l .cell) (omega (arith, l .inv .long, c .before .loop-test .taken)) (λ j. run-next (l .cell) (a .to) j (c .before .loop-test .taken)) (l .inv)
+    let inside = c .before .loop-test .taken in
+    one-copied (run (l .cell + 1) (a .to)) (l .cell) (omega (arith, l .inv .long, inside)) (λ j. run-next (l .cell) (a .to) j inside) (l .inv)
 
 returns : tie.Need-returns Inv-loop μ-loop
 returns c = all-copied (run-over _ _ (c .loop-test .left)) (c .before .loop .inv)

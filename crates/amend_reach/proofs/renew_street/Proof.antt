@@ -15,7 +15,7 @@ returns c =
       last .copy-run .ensures,
       pair .copy-if .ensures,
       facing .copy-named2 .ensures,
-      facing .before .opposite-of .ensures .0,
+      facing .before .before .opposite-of .ensures .0,
       own .copy-named .ensures,
       merged-again,
       merged-again,
@@ -25,4 +25,5 @@ returns c =
 pub renew-street-spec : {M : Type 1} → statement M
 renew-street-spec =
     tie.close
-    (tie.spec (search needs) (search needs) (search needs) (search needs) (search needs) (search needs) (search needs) (search needs) (search needs) (search needs) (search needs) (search needs) (search needs) returns)
+    (tie.spec (search needs) (search needs) (search needs) (search needs) (search needs) (search needs) (search needs)
+    (search needs) (search needs) (search needs) (search needs) (search needs) (search needs) returns)

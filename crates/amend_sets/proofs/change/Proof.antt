@@ -29,7 +29,8 @@ mul-entries-3 c =
 slice-write-entries : tie.Need-slice-write-entries Inv-loop μ-loop
 slice-write-entries c =
     let l = c .before .before .before .loop in
-    omega (arith, next-entry (c .before .before .before .before .args .changes .now) (l .n) (c .before .before .loop-test .taken) (l .inv .known) .0, l .inv .long)
+    let next = next-entry (c .before .before .before .before .args .changes .now) (l .n) (c .before .before .loop-test .taken) (l .inv .known) in
+    omega (arith, next .0, l .inv .long)
 
 loop-again : tie.Need-loop-again Inv-loop μ-loop
 loop-again c = made-one _ _ (c .before .before .loop-test .taken) (c .before .before .before .loop .inv)

@@ -19,12 +19,14 @@ loop-holds c = refl
 returns : tie.Need-returns Inv-loop μ-loop
 returns c =
     let told = c .before .before .check-entry .ensures in
-    handed-on _ told (c .enum-told2 .given .1) ∙ sym (checked-one _ _ (c .before .before .before .before .loop-test .taken) (c .before .before .before .before .before .loop .inv))
+    let inside = c .before .before .before .before in
+    handed-on _ told (c .enum-told2 .given .1) ∙ sym (checked-one _ _ (inside .loop-test .taken) (inside .before .loop .inv))
 
 loop-again : tie.Need-loop-again Inv-loop μ-loop
 loop-again c =
     let told = c .before .before .check-entry .ensures in
-    checked-one _ _ (c .before .before .before .before .loop-test .taken) (c .before .before .before .before .before .loop .inv) ∙ go-on _ (sym told ∙ c .enum-told .given .1)
+    let inside = c .before .before .before .before in
+    checked-one _ _ (inside .loop-test .taken) (inside .before .loop .inv) ∙ go-on _ (sym told ∙ c .enum-told .given .1)
 
 returns-2 : tie.Need-returns-2 Inv-loop μ-loop
 returns-2 c = checked-all _ _ (c .loop-test .left) (c .before .loop .inv)

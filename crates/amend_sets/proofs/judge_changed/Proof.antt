@@ -31,8 +31,10 @@ returns-3 : tie.Need-returns-3
 unfolding togetherAnswer
 returns-3 c =
     let made = c .before .before .before .entries-with .ensures in
-    let known = passed _ (c .before .before .before .before .before .before .before .check-entries .ensures) (c .before .before .before .before .before .enum-told3 .given .1) (c .judge .ensures ∙ ap judged made) in
-    (passed _ (c .before .before .before .before .before .before .before .before .before .before .check-sheet .ensures) (c .before .before .before .before .before .before .before .before .enum-told .given .1) known, λ accepted. made)
+    let named = c .before .before .before .before .before in
+    let sized = named .before .before .before in
+    let known = passed _ (named .before .before .check-entries .ensures) (named .enum-told3 .given .1) (c .judge .ensures ∙ ap judged made) in
+    (passed _ (sized .before .before .check-sheet .ensures) (sized .enum-told .given .1) known, λ accepted. made)
 
 pub judge-changed-spec : {M : Type 1} → statement M
 judge-changed-spec =

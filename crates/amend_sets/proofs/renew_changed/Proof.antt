@@ -22,7 +22,8 @@ loop-holds c =
 cast-renew : tie.Need-cast-renew Inv-loop μ-loop
 cast-renew c =
     let l = c .before .before .before .loop in
-    omega (arith, next-entry (c .before .before .before .before .before .before .before .args .changes .now) (l .n) (c .before .before .loop-test .taken) (l .inv .known) .0)
+    let s = c .before .before .before .before .before .before .before in
+    omega (arith, next-entry (s .args .changes .now) (l .n) (c .before .before .loop-test .taken) (l .inv .known) .0)
 
 renew-requires : tie.Need-renew-requires Inv-loop μ-loop
 renew-requires c κs =
@@ -32,7 +33,9 @@ renew-requires c κs =
     (l .inv .copying .long ∙ s .pre .0, s .pre .1, next .0)
 
 loop-again : tie.Need-loop-again Inv-loop μ-loop
-loop-again c = rw (c .before .before .renew .ensures) (renewed-one _ _ (c .before .before .before .before .before .loop-test .taken) (c .before .before .before .before .before .before .loop .inv))
+loop-again c =
+    let inside = c .before .before .before .before .before in
+    rw (c .before .before .renew .ensures) (renewed-one _ _ (inside .loop-test .taken) (inside .before .loop .inv))
 
 same-length : tie.Need-same-length Inv-loop μ-loop
 same-length c = c .before .loop .inv .copying .long
