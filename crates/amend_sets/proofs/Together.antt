@@ -1,12 +1,10 @@
 -- Changes made together: what is answered, what stays, and that the sheet is the fresh fill wherever it should be. What no change
 -- reaches is untouched change by change.
-use mathlib.Core.Path.{_≡_, refl, sym, _∙_, ap, fun-ext}
-use mathlib.Core.Bool.{Bool, true, false, cond, _||_, or-false}
+use mathlib.Core.Path.{_≡_, refl, sym, _∙_, fun-ext}
+use mathlib.Core.Bool.{false, cond, or-false}
 use mathlib.Core.List.{List, [], _∷_}
 use Prim.Native.Nat.{ℕ, _<_}
-use native.Mathlib.Omega.{arith}
 use lib.ListN.{length, getD, set, take, length-set}
-use lib.Seq.{length-take-le}
 use Rattle.layout.specs.Entries.{entryCount}
 use Rattle.layout.specs.Sheet.{sheetCount}
 use Rattle.lists.proofs.Tests.{neither}
@@ -20,7 +18,7 @@ use Rattle.entries.proofs.Laws.{accepted-count}
 use Rattle.procedure.specs.Sheet.{sheet}
 use Rattle.sheet_cells.specs.Cells.{sheetAnswer}
 use Rattle.sheet_cells.proofs.Cells.{sheet-accepted, sheet-length, sheet-entries}
-use Rattle.amend_reach.specs.Reach.{reached, mergedFrom, merged}
+use Rattle.amend_reach.specs.Reach.{reached, merged}
 use Rattle.amend_reach.proofs.Merging.{length-merged, merged-cell, merged-is-fresh}
 use Rattle.amend_untouched.proofs.Untouched.{untouched}
 use Rattle.amend_sets.specs.Amend.{Change, withChanges, entriesWith, entryAnswer, entriesAnswer, togetherAnswer, someReaches, amendedTogether}

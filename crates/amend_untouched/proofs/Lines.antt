@@ -1,7 +1,7 @@
 -- What a change of one of an approach's numbers leaves of its own lines, and of those of the approach opposite: for each number
 -- the lines, with the old ones wherever the number does not reach, come out the same, line by line.
 use mathlib.Core.Path.{_≡_, refl, sym, _∙_}
-use mathlib.Core.Bool.{Bool, false, not}
+use mathlib.Core.Bool.{false, not}
 use mathlib.Core.List.{List}
 use Prim.Native.Nat.{ℕ, suc, _+_, _<_}
 use lib.Dec.{eqb}
@@ -9,7 +9,6 @@ use lib.ListN.{length, getD}
 use Rattle.layout.specs.Entries.{freeNo}
 use Rattle.layout.specs.Sheet.{lineCount}
 use Rattle.lists.proofs.Tests.{values, each-below}
-use Rattle.kinds.specs.declared.Kind.{Kind}
 use Rattle.procedure.specs.declared.Approach.{Approach}
 use Rattle.procedure.specs.Lines.{lines, firstLines, laterLines, a, b, volume, vST, fT, flow, sST, sSL, interference, F, reference, weighted}
 use Rattle.procedure.specs.Lines.{adjusted, vLL, q, single, leftShare, E, sA, leftA, optionA, allowedA, allowedB, empty, line23, sB, optionB}

@@ -1,7 +1,7 @@
 -- The reach list is right: a cell that it does not name is the same in the sheets of the entries before and after. Each number
 -- of an approach is taken first, then each entry, then each part of the sheet.
 use mathlib.Core.Path.{_≡_, refl, sym, _∙_, ap}
-use mathlib.Core.Bool.{Bool, true, false, cond, _||_}
+use mathlib.Core.Bool.{Bool, true, false, cond}
 use mathlib.Core.List.{List}
 use Prim.Native.Nat.{ℕ, suc, _+_, _-_, _*_, _/_, _%_, _<_}
 use native.Mathlib.Decide.{decLt, ℕ-discrete}

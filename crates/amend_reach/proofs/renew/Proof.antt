@@ -1,8 +1,6 @@
 use Rattle.amend_reach.proofs.Whole.{all-written, street-written, all-renewed, same-row, not-cycle}
 use Rattle.amend_reach.specs.Reach.{reachOf}
-use Rattle.kinds.specs.Kinds.{kindAt}
-use mathlib.Core.Path.{_≡_, sym, _∙_, ap}
-use mathlib.Core.Bool.{false}
+use mathlib.Core.Path.{_∙_, ap}
 use native.Mathlib.Omega.{arith}
 use lib.ListN.{getD, length-set}
 use borrow.Author.Needs.{needs}

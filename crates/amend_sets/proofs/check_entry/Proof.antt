@@ -1,6 +1,5 @@
 use Rattle.amend_sets.specs.Amend.{entryAnswer}
 use borrow.Author.Tests.{lt-ltb, le-ltb}
-use borrow.Author.Needs.{needs}
 use Rattle.amend_sets.proofs.check_entry.Statement.{statement}
 use Rattle.amend_sets.proofs.check_entry.Tie as tie
 

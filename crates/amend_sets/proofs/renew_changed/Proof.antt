@@ -3,7 +3,7 @@ use Rattle.amend_reach.proofs.Merging.{none-copied}
 use Prim.Native.Nat.{_-_, _/_}
 use lib.ListN.{length}
 use native.Mathlib.Omega.{arith}
-use mathlib.Core.Path.{refl, sym, _∙_}
+use mathlib.Core.Path.{sym, _∙_}
 use borrow.Author.Needs.{needs}
 use Rattle.amend_sets.proofs.renew_changed.Statement.{statement}
 use Rattle.amend_sets.proofs.renew_changed.Tie as tie
