@@ -1,5 +1,5 @@
 -- The cells that a copy has still to write, one fewer with each turn.
-use mathlib.Core.Path.{_≡_, refl, sym, _∙_}
+use mathlib.Core.Path.{_≡_, refl, sym, _∙_, fun-ext}
 use mathlib.Core.Bool.{Bool, true, false, _&&_, _||_, and-false, or-false, or-true}
 use mathlib.Core.List.{List}
 use Prim.Native.Nat.{ℕ, suc, _+_, _-_, _≤_, _<_}
@@ -12,7 +12,8 @@ use lib.Seq.{drop-cons}
 use borrow.Author.Tests.{leb-true, lt-ltb, le-ltb, le-leb, lt-leb, eq-eqb, ne-eqb}
 use Rattle.layout.specs.Sheet.{lineCount}
 use Rattle.lists.proofs.Tests.{both-true}
-use Rattle.amend_reach.specs.Reach.{among}
+use Rattle.amend_reach.specs.Reach.{among, names, firstFacing, lastFacing}
+use Rattle.amend_reach.specs.declared.Named.the-variants.{Facing}
 use Rattle.amend_reach.specs.Working.{run, linesNamed, areLines}
 
 module _ (from to k : ℕ) where
@@ -97,6 +98,28 @@ module _ (first : ℕ) (lines : List ℕ) where
 pub all-lines : (first : ℕ) → linesNamed first (λ k. true) ≡ run first (first + lineCount)
 unfolding linesNamed
 all-lines first = refl
+
+pub facing-lines : (first : ℕ) → linesNamed first (names Facing) ≡ run (first + firstFacing - 1) (first + lastFacing)
+unfolding linesNamed
+facing-lines first = fun-ext (λ k. go k (decLt k (first + firstFacing - 1)) (decLt k (first + lastFacing)))
+  where
+    inside : ℕ → Bool
+    inside k = run first (first + lineCount) k
+
+    go :
+        (k : ℕ) → Dec (k < first + firstFacing - 1) → Dec (k < first + lastFacing)
+        → (names Facing (suc (k - first)) && inside k) ≡ run (first + firstFacing - 1) (first + lastFacing) k
+    go k (yes p) _ = rw (lt-leb firstFacing (suc (k - first)) (omega arith)) (sym (before-run (first + firstFacing - 1) (first + lastFacing) k p))
+    go k (no p) (yes q) =
+        rw (
+          le-leb firstFacing (suc (k - first)) (omega arith),
+          le-leb (suc (k - first)) lastFacing (omega arith),
+          in-run (first + firstFacing - 1) (first + lastFacing) k (omega arith) q,
+        )
+        (in-run first (first + lineCount) k (omega arith) (omega arith))
+    go k (no p) (no q) =
+        rw (lt-leb (suc (k - first)) lastFacing (omega arith), le-leb firstFacing (suc (k - first)) (omega arith))
+        (sym (after-run (first + firstFacing - 1) (first + lastFacing) k (omega arith)))
 
 pub no-lines : (first k : ℕ) → linesNamed first (λ k. false) k ≡ false
 unfolding linesNamed

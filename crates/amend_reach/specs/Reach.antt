@@ -2,7 +2,7 @@
 use mathlib.Core.Bool.{Bool, true, false, cond, _&&_, _||_}
 use mathlib.Core.List.{List, [], _∷_}
 use Prim.Native.Nat.{ℕ, suc, _-_, _/_, _%_}
-use lib.Dec.{ltb, eqb}
+use lib.Dec.{leb, ltb, eqb}
 use Rattle.layout.specs.Entries.{groupCount, movementEntries, approachesFrom, approachEntries, entryCount}
 use Rattle.layout.specs.Sheet.{lineCount, linesFrom, pairCells, pairsFrom, lastFrom}
 use Rattle.kinds.specs.declared.Kind.{Kind}
@@ -18,6 +18,13 @@ abbrev pub among : ℕ → List ℕ → Bool
 among k [] = false
 among k (x ∷ xs) = eqb k x || among k xs
 
+-- "the opposite approach's 21–26"
+abbrev pub firstFacing : ℕ
+firstFacing = 21
+
+abbrev pub lastFacing : ℕ
+lastFacing = 26
+
 -- the lines that the list names together
 abbrev pub names : Named → ℕ → Bool
 names All k = true
@@ -25,7 +32,7 @@ names Times k = among k (16 ∷ 17 ∷ 18 ∷ 26 ∷ 28 ∷ [])
 names Walkers k = among k (10 ∷ 11 ∷ 12 ∷ 14 ∷ 15 ∷ 17 ∷ 18 ∷ 23 ∷ 24 ∷ 25 ∷ 26 ∷ 27 ∷ 28 ∷ [])
 names Button k = among k (12 ∷ 17 ∷ 26 ∷ 28 ∷ [])
 names Crossing k = among k (17 ∷ 26 ∷ 28 ∷ [])
-names Facing k = among k (21 ∷ 22 ∷ 23 ∷ 24 ∷ 25 ∷ 26 ∷ [])
+names Facing k = leb firstFacing k && leb k lastFacing
 names NoLine k = false
 
 -- "own 1–28 and the opposite approach's 21–26", and "all but free right also the approach's pair cells"

@@ -24,6 +24,11 @@ pub enum Named {
     NoLine,
 }
 
+// The first and the last of the lines that look at the approach opposite.
+const FACING_FROM: usize = 21;
+
+const FACING_TO: usize = 26;
+
 // What an amendment of an entry reaches, besides the entry itself and the last cells.
 pub struct Reach {
     pub own: Named,
@@ -177,7 +182,7 @@ fn copy_named(sheet: &mut [u32], fresh: &[u32], named: Named, first: usize)
         ),
         Named::Button => copy_lines(sheet, fresh, first, &[12, 17, 26, 28]),
         Named::Crossing => copy_lines(sheet, fresh, first, &[17, 26, 28]),
-        Named::Facing => copy_lines(sheet, fresh, first, &[21, 22, 23, 24, 25, 26]),
+        Named::Facing => copy_run(sheet, fresh, first + FACING_FROM - 1, first + FACING_TO),
         Named::NoLine => {}
     }
 }
