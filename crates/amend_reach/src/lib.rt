@@ -166,6 +166,40 @@ fn copy_lines(sheet: &mut [u32], fresh: &[u32], first: usize, lines: &[usize])
     }
 }
 
+// Each list has a function of its own, so that it is made only where it is read.
+fn copy_times(sheet: &mut [u32], fresh: &[u32], first: usize)
+    requires { ⌜ (length (now fresh) ≡ length (now sheet)) × (first + lineCount ≤ length (now sheet)) ⌝ }
+    ensures { λ _. ⌜ now (sheet .exit) ≡ mergedFrom (linesNamed first (names Named.Times)) 0 (now (fresh .entry)) (now (sheet .entry)) ⌝ }
+{
+    copy_lines(sheet, fresh, first, &[16, 17, 18, 26, 28]);
+}
+
+fn copy_walkers(sheet: &mut [u32], fresh: &[u32], first: usize)
+    requires { ⌜ (length (now fresh) ≡ length (now sheet)) × (first + lineCount ≤ length (now sheet)) ⌝ }
+    ensures { λ _. ⌜ now (sheet .exit) ≡ mergedFrom (linesNamed first (names Named.Walkers)) 0 (now (fresh .entry)) (now (sheet .entry)) ⌝ }
+{
+    copy_lines(
+        sheet,
+        fresh,
+        first,
+        &[10, 11, 12, 14, 15, 17, 18, 23, 24, 25, 26, 27, 28],
+    );
+}
+
+fn copy_button(sheet: &mut [u32], fresh: &[u32], first: usize)
+    requires { ⌜ (length (now fresh) ≡ length (now sheet)) × (first + lineCount ≤ length (now sheet)) ⌝ }
+    ensures { λ _. ⌜ now (sheet .exit) ≡ mergedFrom (linesNamed first (names Named.Button)) 0 (now (fresh .entry)) (now (sheet .entry)) ⌝ }
+{
+    copy_lines(sheet, fresh, first, &[12, 17, 26, 28]);
+}
+
+fn copy_crossing(sheet: &mut [u32], fresh: &[u32], first: usize)
+    requires { ⌜ (length (now fresh) ≡ length (now sheet)) × (first + lineCount ≤ length (now sheet)) ⌝ }
+    ensures { λ _. ⌜ now (sheet .exit) ≡ mergedFrom (linesNamed first (names Named.Crossing)) 0 (now (fresh .entry)) (now (sheet .entry)) ⌝ }
+{
+    copy_lines(sheet, fresh, first, &[17, 26, 28]);
+}
+
 // Writes the lines that are named together, of those whose first stands at a cell.
 fn copy_named(sheet: &mut [u32], fresh: &[u32], named: Named, first: usize)
     requires { ⌜ (length (now fresh) ≡ length (now sheet)) × (first + lineCount ≤ length (now sheet)) ⌝ }
@@ -173,15 +207,10 @@ fn copy_named(sheet: &mut [u32], fresh: &[u32], named: Named, first: usize)
 {
     match named {
         Named::All => copy_run(sheet, fresh, first, first + layout::LINES),
-        Named::Times => copy_lines(sheet, fresh, first, &[16, 17, 18, 26, 28]),
-        Named::Walkers => copy_lines(
-            sheet,
-            fresh,
-            first,
-            &[10, 11, 12, 14, 15, 17, 18, 23, 24, 25, 26, 27, 28],
-        ),
-        Named::Button => copy_lines(sheet, fresh, first, &[12, 17, 26, 28]),
-        Named::Crossing => copy_lines(sheet, fresh, first, &[17, 26, 28]),
+        Named::Times => copy_times(sheet, fresh, first),
+        Named::Walkers => copy_walkers(sheet, fresh, first),
+        Named::Button => copy_button(sheet, fresh, first),
+        Named::Crossing => copy_crossing(sheet, fresh, first),
         Named::Facing => copy_run(sheet, fresh, first + FACING_FROM - 1, first + FACING_TO),
         Named::NoLine => {}
     }
