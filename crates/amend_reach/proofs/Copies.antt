@@ -12,9 +12,8 @@ use lib.Seq.{drop-cons}
 use borrow.Author.Tests.{leb-true, lt-ltb, le-ltb, le-leb, lt-leb, eq-eqb, ne-eqb}
 use Rattle.layout.specs.Sheet.{lineCount}
 use Rattle.lists.proofs.Tests.{both-true}
-use Rattle.amend_reach.specs.Reach.{among, names, firstFacing, lastFacing}
-use Rattle.amend_reach.specs.declared.Named.the-variants.{Facing}
-use Rattle.amend_reach.specs.Working.{run, linesNamed, areLines}
+use Rattle.amend_reach.specs.Reach.{among, faces, firstFacing, lastFacing}
+use Rattle.amend_reach.specs.Working.{run, runIf, linesNamed, areLines}
 
 module _ (from to k : ℕ) where
   pub in-run : from ≤ k → k < to → run from to k ≡ true
@@ -99,16 +98,20 @@ pub all-lines : (first : ℕ) → linesNamed first (λ k. true) ≡ run first (f
 unfolding linesNamed
 all-lines first = refl
 
-pub facing-lines : (first : ℕ) → linesNamed first (names Facing) ≡ run (first + firstFacing - 1) (first + lastFacing)
+pub no-lines : (first k : ℕ) → linesNamed first (λ k. false) k ≡ false
 unfolding linesNamed
-facing-lines first = fun-ext (λ k. go k (decLt k (first + firstFacing - 1)) (decLt k (first + lastFacing)))
-  where
-    inside : ℕ → Bool
-    inside k = run first (first + lineCount) k
+no-lines first k = refl
 
+-- the lines that face the other approach are a run, wanted or not
+pub facing-lines :
+    (looks : Bool) (first : ℕ) → linesNamed first (faces looks) ≡ runIf looks (first + firstFacing - 1) (first + lastFacing)
+unfolding linesNamed runIf
+facing-lines false first = refl
+facing-lines true first = fun-ext (λ k. go k (decLt k (first + firstFacing - 1)) (decLt k (first + lastFacing)))
+  where
     go :
         (k : ℕ) → Dec (k < first + firstFacing - 1) → Dec (k < first + lastFacing)
-        → (names Facing (suc (k - first)) && inside k) ≡ run (first + firstFacing - 1) (first + lastFacing) k
+        → (faces true (suc (k - first)) && run first (first + lineCount) k) ≡ run (first + firstFacing - 1) (first + lastFacing) k
     go k (yes p) _ = rw (lt-leb firstFacing (suc (k - first)) (omega arith)) (sym (before-run (first + firstFacing - 1) (first + lastFacing) k p))
     go k (no p) (yes q) =
         rw (
@@ -120,7 +123,3 @@ facing-lines first = fun-ext (λ k. go k (decLt k (first + firstFacing - 1)) (de
     go k (no p) (no q) =
         rw (lt-leb (suc (k - first)) lastFacing (omega arith), le-leb firstFacing (suc (k - first)) (omega arith))
         (sym (after-run (first + firstFacing - 1) (first + lastFacing) k (omega arith)))
-
-pub no-lines : (first k : ℕ) → linesNamed first (λ k. false) k ≡ false
-unfolding linesNamed
-no-lines first k = refl

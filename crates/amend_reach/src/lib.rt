@@ -10,7 +10,7 @@ ghost use Rattle.amend_reach.specs.Reach.{among, names, reachOf, approac
 ghost use Rattle.amend_reach.specs.Working.{run, runIf, linesNamed, areLines, SameRow, streetCells};
 use kinds::Kind;
 
-// Lines that the rules name together.
+// Lines of an approach that the rules name together.
 pub enum Named {
     All,
     // of lost time and minimum green
@@ -19,8 +19,6 @@ pub enum Named {
     Walkers,
     Button,
     Crossing,
-    // those that look at the approach opposite
-    Facing,
     NoLine,
 }
 
@@ -32,8 +30,8 @@ const FACING_TO: usize = 26;
 // What an amendment of an entry reaches, besides the entry itself and the last cells.
 pub struct Reach {
     pub own: Named,
-    // of the approach opposite
-    pub facing: Named,
+    // the lines of the approach opposite that look at it
+    pub facing: bool,
     // the cells of the approach's pair
     pub pair: bool,
     // every line and pair cell, of either street
@@ -43,49 +41,49 @@ pub struct Reach {
 impl Reach {
     const BOTH_WAYS: Reach = Reach {
         own: Named::All,
-        facing: Named::Facing,
+        facing: true,
         pair: true,
         everywhere: false,
     };
 
     const TIMES: Reach = Reach {
         own: Named::Times,
-        facing: Named::NoLine,
+        facing: false,
         pair: true,
         everywhere: false,
     };
 
     const WALKERS: Reach = Reach {
         own: Named::Walkers,
-        facing: Named::NoLine,
+        facing: false,
         pair: true,
         everywhere: false,
     };
 
     const BUTTON: Reach = Reach {
         own: Named::Button,
-        facing: Named::NoLine,
+        facing: false,
         pair: true,
         everywhere: false,
     };
 
     const CROSSING: Reach = Reach {
         own: Named::Crossing,
-        facing: Named::NoLine,
+        facing: false,
         pair: true,
         everywhere: false,
     };
 
     const NONE_MORE: Reach = Reach {
         own: Named::NoLine,
-        facing: Named::NoLine,
+        facing: false,
         pair: false,
         everywhere: false,
     };
 
     const EVERY_LINE: Reach = Reach {
         own: Named::All,
-        facing: Named::All,
+        facing: true,
         pair: true,
         everywhere: true,
     };
@@ -211,7 +209,6 @@ fn copy_named(sheet: &mut [u32], fresh: &[u32], named: Named, first: usize)
         Named::Walkers => copy_walkers(sheet, fresh, first),
         Named::Button => copy_button(sheet, fresh, first),
         Named::Crossing => copy_crossing(sheet, fresh, first),
-        Named::Facing => copy_run(sheet, fresh, first + FACING_FROM - 1, first + FACING_TO),
         Named::NoLine => {}
     }
 }
@@ -224,9 +221,14 @@ fn renew_street(sheet: &mut [u32], fresh: &[u32], reach: Reach, approach: usize)
     let own = reach.own;
     let lines = layout::LINES_FROM + layout::LINES * approach;
     copy_named(sheet, fresh, own, lines);
-    let facing = reach.facing;
     let across = layout::LINES_FROM + layout::LINES * opposite_of(approach);
-    copy_named(sheet, fresh, facing, across);
+    copy_if(
+        reach.facing,
+        sheet,
+        fresh,
+        across + FACING_FROM - 1,
+        across + FACING_TO,
+    );
     let pair = layout::PAIRS_FROM + layout::PAIR_CELLS * (approach / 2);
     copy_if(reach.pair, sheet, fresh, pair, pair + layout::PAIR_CELLS);
     copy_run(sheet, fresh, layout::LAST_FROM, layout::CELLS);

@@ -1,6 +1,6 @@
 use mathlib.Core.Path.{sym}
 use Rattle.amend_reach.proofs.Merging.{merged-none}
-use Rattle.amend_reach.proofs.Copies.{all-lines, facing-lines, no-lines}
+use Rattle.amend_reach.proofs.Copies.{all-lines, no-lines}
 use borrow.Author.Needs.{needs}
 use Rattle.amend_reach.proofs.copy_named.Statement.{statement}
 use Rattle.amend_reach.proofs.copy_named.Tie as tie
@@ -21,17 +21,12 @@ returns-5 : tie.Need-returns-5
 returns-5 c = rw (c .before .before .before .before .enum-told5 .given .1) (c .before .before .copy-crossing .ensures)
 
 returns-6 : tie.Need-returns-6
-returns-6 c = rw (c .before .before .before .before .enum-told6 .given .1, facing-lines) (c .before .before .copy-run2 .ensures)
-
-returns-7 : tie.Need-returns-7
-returns-7 c = rw (c .enum-told7 .given .1) (sym (merged-none _ _ _ (c .before .before .before .before .pre .0) (no-lines _)))
+returns-6 c = rw (c .enum-told6 .given .1) (sym (merged-none _ _ _ (c .before .before .before .before .pre .0) (no-lines _)))
 
 pub copy-named-spec : {M : Type 1} → statement M
 copy-named-spec =
     tie.close
     (tie.spec (λ c. search needs) (λ c. search needs) (λ c. search needs) (λ c. search needs) (λ c. search needs)
     (λ c. search needs) (λ c. search needs) (λ c. search needs) (λ c. search needs) (λ c. search needs)
-    (λ c. search needs) (λ c. search needs) (λ c. search needs) (λ c. search needs) (λ c. search needs)
     (λ c. search needs) (λ c. search needs) (λ c. search needs) returns (λ c. search needs) returns-2
-    (λ c. search needs) returns-3 (λ c. search needs) returns-4 (λ c. search needs) returns-5 (λ c. search needs)
-    returns-6 returns-7)
+    (λ c. search needs) returns-3 (λ c. search needs) returns-4 (λ c. search needs) returns-5 returns-6)
