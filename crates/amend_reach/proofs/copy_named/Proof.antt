@@ -1,3 +1,4 @@
+-- Each arm is the copy that it calls, by the name that it was told.
 use mathlib.Core.Path.{sym}
 use Rattle.amend_reach.proofs.Merging.{merged-none}
 use Rattle.amend_reach.proofs.Copies.{all-lines, no-lines}

@@ -1,3 +1,4 @@
+-- Four copies in turn are one copy of the cells of any of them.
 use Rattle.layout.specs.Sheet.{linesOf}
 use Rattle.sheet_cells.specs.Cells.{opposite}
 use Rattle.amend_reach.specs.Working.{streetCells}
