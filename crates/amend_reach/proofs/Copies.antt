@@ -1,5 +1,5 @@
 -- The cells that a copy has still to write, one fewer with each turn.
-use mathlib.Core.Path.{_≡_, refl, sym, _∙_}
+use mathlib.Core.Path.{_≡_, refl, sym, _∙_, fun-ext}
 use mathlib.Core.Bool.{Bool, true, false, _&&_, _||_, and-false, or-false, or-true}
 use mathlib.Core.List.{List}
 use Prim.Native.Nat.{ℕ, suc, _+_, _-_, _≤_, _<_}
@@ -12,8 +12,8 @@ use lib.Seq.{drop-cons}
 use borrow.Author.Tests.{leb-true, lt-ltb, le-ltb, le-leb, lt-leb, eq-eqb, ne-eqb}
 use Rattle.layout.specs.Sheet.{lineCount}
 use Rattle.lists.proofs.Tests.{both-true}
-use Rattle.amend_reach.specs.Reach.{among}
-use Rattle.amend_reach.specs.Working.{run, linesNamed, areLines}
+use Rattle.amend_reach.specs.Reach.{among, faces, firstFacing, lastFacing}
+use Rattle.amend_reach.specs.Working.{run, runIf, linesNamed, areLines}
 
 module _ (from to k : ℕ) where
   pub in-run : from ≤ k → k < to → run from to k ≡ true
@@ -101,3 +101,25 @@ all-lines first = refl
 pub no-lines : (first k : ℕ) → linesNamed first (λ k. false) k ≡ false
 unfolding linesNamed
 no-lines first k = refl
+
+-- the lines that face the other approach are a run, wanted or not
+pub facing-lines :
+    (looks : Bool) (first : ℕ) → linesNamed first (faces looks) ≡ runIf looks (first + firstFacing - 1) (first + lastFacing)
+unfolding linesNamed runIf
+facing-lines false first = refl
+facing-lines true first = fun-ext (λ k. go k (decLt k (first + firstFacing - 1)) (decLt k (first + lastFacing)))
+  where
+    go :
+        (k : ℕ) → Dec (k < first + firstFacing - 1) → Dec (k < first + lastFacing)
+        → (faces true (suc (k - first)) && run first (first + lineCount) k) ≡ run (first + firstFacing - 1) (first + lastFacing) k
+    go k (yes p) _ = rw (lt-leb firstFacing (suc (k - first)) (omega arith)) (sym (before-run (first + firstFacing - 1) (first + lastFacing) k p))
+    go k (no p) (yes q) =
+        rw (
+          le-leb firstFacing (suc (k - first)) (omega arith),
+          le-leb (suc (k - first)) lastFacing (omega arith),
+          in-run (first + firstFacing - 1) (first + lastFacing) k (omega arith) q,
+        )
+        (in-run first (first + lineCount) k (omega arith) (omega arith))
+    go k (no p) (no q) =
+        rw (lt-leb (suc (k - first)) lastFacing (omega arith), le-leb firstFacing (suc (k - first)) (omega arith))
+        (sym (after-run (first + firstFacing - 1) (first + lastFacing) k (omega arith)))

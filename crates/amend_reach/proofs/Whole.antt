@@ -14,7 +14,7 @@ use Rattle.kinds.specs.Kinds.{kindAt}
 use Rattle.sheet_cells.specs.Cells.{opposite}
 use Rattle.sheet_cells.proofs.Street.{street}
 use Rattle.amend_reach.specs.declared.Reach.{Reach}
-use Rattle.amend_reach.specs.Reach.{names, reachOf, approachAt, reachedLine, reachedPair, reached, mergedFrom, merged}
+use Rattle.amend_reach.specs.Reach.{names, faces, reachOf, approachAt, reachedLine, reachedPair, reached, mergedFrom, merged}
 use Rattle.amend_reach.specs.Working.{run, runIf, linesNamed, SameRow, streetCells}
 use Rattle.amend_reach.proofs.Merging.{merged-one, merged-same, merged-again}
 use Rattle.amend_reach.proofs.Copies.{in-run, before-run, after-run}
@@ -79,7 +79,7 @@ module _ (reach : Reach) (a : ℕ) (few : a < approachCount) (quiet : reach .eve
         before-run lastFrom sheetCount k (omega arith),
         before-run (pairOf (a / 2)) (pairOf (a / 2) + pairCells) k (omega arith),
         and-false (reach .pair),
-        lines-at (opposite a) c t k (names (reach .facing)) at (omega arith),
+        lines-at (opposite a) c t k (faces (reach .facing)) at (omega arith),
         lines-at a c t k (names (reach .own)) at (omega arith),
         quiet,
       )
@@ -98,7 +98,7 @@ module _ (reach : Reach) (a : ℕ) (few : a < approachCount) (quiet : reach .eve
       own = names (reach .own) (suc t)
 
       facing : Bool
-      facing = names (reach .facing) (suc t)
+      facing = faces (reach .facing) (suc t)
 
       go :
           (mine : Bool) → eqb c a ≡ mine → (other : Bool) → eqb c (opposite a) ≡ other
@@ -115,7 +115,7 @@ module _ (reach : Reach) (a : ℕ) (few : a < approachCount) (quiet : reach .eve
       rw (
         before-run lastFrom sheetCount k (omega arith),
         in-pair (a / 2) k h,
-        after-lines (linesOf (opposite a)) (names (reach .facing)) k (omega (arith, street a few .few)),
+        after-lines (linesOf (opposite a)) (faces (reach .facing)) k (omega (arith, street a few .few)),
         after-lines (linesOf a) (names (reach .own)) k (omega arith),
         quiet,
         or-false cell,
@@ -130,7 +130,7 @@ module _ (reach : Reach) (a : ℕ) (few : a < approachCount) (quiet : reach .eve
         before-run lastFrom sheetCount k (omega arith),
         before-run (pairOf (a / 2)) (pairOf (a / 2) + pairCells) k (omega arith),
         and-false (reach .pair),
-        before-lines (linesOf (opposite a)) (names (reach .facing)) k (omega arith),
+        before-lines (linesOf (opposite a)) (faces (reach .facing)) k (omega arith),
         before-lines (linesOf a) (names (reach .own)) k (omega arith),
       )
 

@@ -2,7 +2,7 @@
 use mathlib.Core.Bool.{Bool, true, false, cond, _&&_, _||_}
 use mathlib.Core.List.{List, [], _∷_}
 use Prim.Native.Nat.{ℕ, suc, _-_, _/_, _%_}
-use lib.Dec.{ltb, eqb}
+use lib.Dec.{leb, ltb, eqb}
 use Rattle.layout.specs.Entries.{groupCount, movementEntries, approachesFrom, approachEntries, entryCount}
 use Rattle.layout.specs.Sheet.{lineCount, linesFrom, pairCells, pairsFrom, lastFrom}
 use Rattle.kinds.specs.declared.Kind.{Kind}
@@ -11,38 +11,47 @@ use Rattle.kinds.specs.declared.Kind.the-variants.{SharedLane, Pedestrians, Pus
 use Rattle.kinds.specs.Kinds.{kindAt}
 use Rattle.sheet_cells.specs.Cells.{opposite}
 use Rattle.amend_reach.specs.declared.Named.{Named}
-use Rattle.amend_reach.specs.declared.Named.the-variants.{All, Times, Walkers, Button, Crossing, Facing, NoLine}
+use Rattle.amend_reach.specs.declared.Named.the-variants.{All, Times, Walkers, Button, Crossing, NoLine}
 use Rattle.amend_reach.specs.declared.Reach.{Reach}
 
 abbrev pub among : ℕ → List ℕ → Bool
 among k [] = false
 among k (x ∷ xs) = eqb k x || among k xs
 
--- the lines that the list names together
+-- the own lines that the list names together
 abbrev pub names : Named → ℕ → Bool
 names All k = true
 names Times k = among k (16 ∷ 17 ∷ 18 ∷ 26 ∷ 28 ∷ [])
 names Walkers k = among k (10 ∷ 11 ∷ 12 ∷ 14 ∷ 15 ∷ 17 ∷ 18 ∷ 23 ∷ 24 ∷ 25 ∷ 26 ∷ 27 ∷ 28 ∷ [])
 names Button k = among k (12 ∷ 17 ∷ 26 ∷ 28 ∷ [])
 names Crossing k = among k (17 ∷ 26 ∷ 28 ∷ [])
-names Facing k = among k (21 ∷ 22 ∷ 23 ∷ 24 ∷ 25 ∷ 26 ∷ [])
 names NoLine k = false
+
+-- "the opposite approach's 21–26", where they are reached
+abbrev pub firstFacing : ℕ
+firstFacing = 21
+
+abbrev pub lastFacing : ℕ
+lastFacing = 26
+
+abbrev pub faces : Bool → ℕ → Bool
+faces looks k = looks && (leb firstFacing k && leb k lastFacing)
 
 -- "own 1–28 and the opposite approach's 21–26", and "all but free right also the approach's pair cells"
 abbrev pub both-ways : Reach
-both-ways = record { own = All; facing = Facing; pair = true; everywhere = false }
+both-ways = record { own = All; facing = true; pair = true; everywhere = false }
 
 -- own lines, and the pair cells
 abbrev pub own : Named → Reach
-own lines = record { own = lines; facing = NoLine; pair = true; everywhere = false }
+own lines = record { own = lines; facing = false; pair = true; everywhere = false }
 
 -- "free right: none more"
 abbrev pub none-more : Reach
-none-more = record { own = NoLine; facing = NoLine; pair = false; everywhere = false }
+none-more = record { own = NoLine; facing = false; pair = false; everywhere = false }
 
 -- "CL: every line and pair cell": those of the street that crosses, too
 abbrev pub every-line : Reach
-every-line = record { own = All; facing = All; pair = true; everywhere = true }
+every-line = record { own = All; facing = true; pair = true; everywhere = true }
 
 -- the list: a row for each kind
 abbrev pub reachOf : Kind → Reach
@@ -65,7 +74,7 @@ approachAt i = cond (ltb i approachesFrom) (i / movementEntries / groupCount) ((
 -- whether a change of an entry of approach a reaches line k of approach c
 unfoldable pub reachedLine : Reach → ℕ → ℕ → ℕ → Bool
 reachedLine reach a c k =
-    reach .everywhere || cond (eqb c a) (names (reach .own) k) (cond (eqb c (opposite a)) (names (reach .facing) k) false)
+    reach .everywhere || cond (eqb c a) (names (reach .own) k) (cond (eqb c (opposite a)) (faces (reach .facing) k) false)
 
 -- and the cells of pair q
 unfoldable pub reachedPair : Reach → ℕ → ℕ → Bool

@@ -7,7 +7,7 @@ use lib.Dec.{leb, ltb}
 use Rattle.layout.specs.Sheet.{lineCount, linesOf, pairCells, pairOf, lastFrom, sheetCount}
 use Rattle.sheet_cells.specs.Cells.{opposite}
 use Rattle.amend_reach.specs.declared.Reach.{Reach}
-use Rattle.amend_reach.specs.Reach.{names}
+use Rattle.amend_reach.specs.Reach.{names, faces}
 
 -- those from one on and before another
 unfoldable pub run : ℕ → ℕ → ℕ → Bool
@@ -33,4 +33,4 @@ SameRow r s = (r .own ≡ s .own) × (r .facing ≡ s .facing) × (r .pair ≡ s
 unfoldable pub streetCells : Reach → ℕ → ℕ → Bool
 streetCells reach a k =
     run lastFrom sheetCount k || runIf (reach .pair) (pairOf (a / 2)) (pairOf (a / 2) + pairCells) k
-    || linesNamed (linesOf (opposite a)) (names (reach .facing)) k || linesNamed (linesOf a) (names (reach .own)) k
+    || linesNamed (linesOf (opposite a)) (faces (reach .facing)) k || linesNamed (linesOf a) (names (reach .own)) k

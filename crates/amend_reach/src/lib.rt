@@ -10,7 +10,7 @@ ghost use Rattle.amend_reach.specs.Reach.{among, names, reachOf, approac
 ghost use Rattle.amend_reach.specs.Working.{run, runIf, linesNamed, areLines, SameRow, streetCells};
 use kinds::Kind;
 
-// Lines that the rules name together.
+// Lines of an approach that the rules name together.
 pub enum Named {
     All,
     // of lost time and minimum green
@@ -19,16 +19,19 @@ pub enum Named {
     Walkers,
     Button,
     Crossing,
-    // those that look at the approach opposite
-    Facing,
     NoLine,
 }
+
+// The first and the last of the lines that look at the approach opposite.
+const FACING_FROM: usize = 21;
+
+const FACING_TO: usize = 26;
 
 // What an amendment of an entry reaches, besides the entry itself and the last cells.
 pub struct Reach {
     pub own: Named,
-    // of the approach opposite
-    pub facing: Named,
+    // the lines of the approach opposite that look at it
+    pub facing: bool,
     // the cells of the approach's pair
     pub pair: bool,
     // every line and pair cell, of either street
@@ -38,49 +41,49 @@ pub struct Reach {
 impl Reach {
     const BOTH_WAYS: Reach = Reach {
         own: Named::All,
-        facing: Named::Facing,
+        facing: true,
         pair: true,
         everywhere: false,
     };
 
     const TIMES: Reach = Reach {
         own: Named::Times,
-        facing: Named::NoLine,
+        facing: false,
         pair: true,
         everywhere: false,
     };
 
     const WALKERS: Reach = Reach {
         own: Named::Walkers,
-        facing: Named::NoLine,
+        facing: false,
         pair: true,
         everywhere: false,
     };
 
     const BUTTON: Reach = Reach {
         own: Named::Button,
-        facing: Named::NoLine,
+        facing: false,
         pair: true,
         everywhere: false,
     };
 
     const CROSSING: Reach = Reach {
         own: Named::Crossing,
-        facing: Named::NoLine,
+        facing: false,
         pair: true,
         everywhere: false,
     };
 
     const NONE_MORE: Reach = Reach {
         own: Named::NoLine,
-        facing: Named::NoLine,
+        facing: false,
         pair: false,
         everywhere: false,
     };
 
     const EVERY_LINE: Reach = Reach {
         own: Named::All,
-        facing: Named::All,
+        facing: true,
         pair: true,
         everywhere: true,
     };
@@ -161,6 +164,40 @@ fn copy_lines(sheet: &mut [u32], fresh: &[u32], first: usize, lines: &[usize])
     }
 }
 
+// Each list has a function of its own, so that it is made only where it is read.
+fn copy_times(sheet: &mut [u32], fresh: &[u32], first: usize)
+    requires { ⌜ (length (now fresh) ≡ length (now sheet)) × (first + lineCount ≤ length (now sheet)) ⌝ }
+    ensures { λ _. ⌜ now (sheet .exit) ≡ mergedFrom (linesNamed first (names Named.Times)) 0 (now (fresh .entry)) (now (sheet .entry)) ⌝ }
+{
+    copy_lines(sheet, fresh, first, &[16, 17, 18, 26, 28]);
+}
+
+fn copy_walkers(sheet: &mut [u32], fresh: &[u32], first: usize)
+    requires { ⌜ (length (now fresh) ≡ length (now sheet)) × (first + lineCount ≤ length (now sheet)) ⌝ }
+    ensures { λ _. ⌜ now (sheet .exit) ≡ mergedFrom (linesNamed first (names Named.Walkers)) 0 (now (fresh .entry)) (now (sheet .entry)) ⌝ }
+{
+    copy_lines(
+        sheet,
+        fresh,
+        first,
+        &[10, 11, 12, 14, 15, 17, 18, 23, 24, 25, 26, 27, 28],
+    );
+}
+
+fn copy_button(sheet: &mut [u32], fresh: &[u32], first: usize)
+    requires { ⌜ (length (now fresh) ≡ length (now sheet)) × (first + lineCount ≤ length (now sheet)) ⌝ }
+    ensures { λ _. ⌜ now (sheet .exit) ≡ mergedFrom (linesNamed first (names Named.Button)) 0 (now (fresh .entry)) (now (sheet .entry)) ⌝ }
+{
+    copy_lines(sheet, fresh, first, &[12, 17, 26, 28]);
+}
+
+fn copy_crossing(sheet: &mut [u32], fresh: &[u32], first: usize)
+    requires { ⌜ (length (now fresh) ≡ length (now sheet)) × (first + lineCount ≤ length (now sheet)) ⌝ }
+    ensures { λ _. ⌜ now (sheet .exit) ≡ mergedFrom (linesNamed first (names Named.Crossing)) 0 (now (fresh .entry)) (now (sheet .entry)) ⌝ }
+{
+    copy_lines(sheet, fresh, first, &[17, 26, 28]);
+}
+
 // Writes the lines that are named together, of those whose first stands at a cell.
 fn copy_named(sheet: &mut [u32], fresh: &[u32], named: Named, first: usize)
     requires { ⌜ (length (now fresh) ≡ length (now sheet)) × (first + lineCount ≤ length (now sheet)) ⌝ }
@@ -168,16 +205,10 @@ fn copy_named(sheet: &mut [u32], fresh: &[u32], named: Named, first: usize)
 {
     match named {
         Named::All => copy_run(sheet, fresh, first, first + layout::LINES),
-        Named::Times => copy_lines(sheet, fresh, first, &[16, 17, 18, 26, 28]),
-        Named::Walkers => copy_lines(
-            sheet,
-            fresh,
-            first,
-            &[10, 11, 12, 14, 15, 17, 18, 23, 24, 25, 26, 27, 28],
-        ),
-        Named::Button => copy_lines(sheet, fresh, first, &[12, 17, 26, 28]),
-        Named::Crossing => copy_lines(sheet, fresh, first, &[17, 26, 28]),
-        Named::Facing => copy_lines(sheet, fresh, first, &[21, 22, 23, 24, 25, 26]),
+        Named::Times => copy_times(sheet, fresh, first),
+        Named::Walkers => copy_walkers(sheet, fresh, first),
+        Named::Button => copy_button(sheet, fresh, first),
+        Named::Crossing => copy_crossing(sheet, fresh, first),
         Named::NoLine => {}
     }
 }
@@ -190,9 +221,14 @@ fn renew_street(sheet: &mut [u32], fresh: &[u32], reach: Reach, approach: usize)
     let own = reach.own;
     let lines = layout::LINES_FROM + layout::LINES * approach;
     copy_named(sheet, fresh, own, lines);
-    let facing = reach.facing;
     let across = layout::LINES_FROM + layout::LINES * opposite_of(approach);
-    copy_named(sheet, fresh, facing, across);
+    copy_if(
+        reach.facing,
+        sheet,
+        fresh,
+        across + FACING_FROM - 1,
+        across + FACING_TO,
+    );
     let pair = layout::PAIRS_FROM + layout::PAIR_CELLS * (approach / 2);
     copy_if(reach.pair, sheet, fresh, pair, pair + layout::PAIR_CELLS);
     copy_run(sheet, fresh, layout::LAST_FROM, layout::CELLS);

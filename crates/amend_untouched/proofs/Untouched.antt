@@ -21,7 +21,7 @@ use Rattle.sheet_cells.specs.Cells.{opposite}
 use Rattle.sheet_cells.proofs.Cells.{lines-length, sheet-length, entry-cell, line-cell, pair-cell}
 use Rattle.sheet_cells.proofs.Street.{street, pair-of}
 use Rattle.amend_reach.specs.declared.Reach.{Reach}
-use Rattle.amend_reach.specs.Reach.{names, reachOf, approachAt, reachedLine, reachedPair, reached}
+use Rattle.amend_reach.specs.Reach.{names, faces, reachOf, approachAt, reachedLine, reachedPair, reached}
 use Rattle.amend_reach.proofs.Parts.{at-entry, at-line, at-pair, at-last}
 use Rattle.amend_untouched.proofs.Numbers.{ownFrom, numberCount, numbers, fieldKind, place, place-below, read-is, read-own, read-other, of-entry}
 use Rattle.amend_untouched.proofs.Lines.{own-kept, opposed-kept, pair-number}
@@ -36,7 +36,7 @@ module _ (e : List ℕ) (a f v : ℕ) (long : length e ≡ entryCount) (ha : a <
   street-lines :
       (o t : ℕ) → o < approachCount → (o ≡ a → ⊥) → t < lineCount
       → (names (row .own) (suc t) ≡ false → getD (linesAt (set e (place a f) v) a o) t 0 ≡ getD (linesAt e a o) t 0)
-      × (names (row .facing) (suc t) ≡ false → getD (linesAt (set e (place a f) v) o a) t 0 ≡ getD (linesAt e o a) t 0)
+      × (faces (row .facing) (suc t) ≡ false → getD (linesAt (set e (place a f) v) o a) t 0 ≡ getD (linesAt e o a) t 0)
   unfolding linesAt
   street-lines o t ho other ht =
       rw (read-own e a f v long ha hf, read-other e a f v long ha hf o ho other, cycle-kept, read-is e a) (
@@ -57,7 +57,7 @@ module _ (e : List ℕ) (a f v : ℕ) (long : length e ≡ entryCount) (ha : a <
     where
       go :
           (own : Bool) → eqb c a ≡ own → (opposed : Bool) → eqb c (opposite a) ≡ opposed
-          → cond own (names (row .own) (suc t)) (cond opposed (names (row .facing) (suc t)) false) ≡ false
+          → cond own (names (row .own) (suc t)) (cond opposed (faces (row .facing) (suc t)) false) ≡ false
           → getD (linesAt (set e (place a f) v) c (opposite c)) t 0 ≡ getD (linesAt e c (opposite c)) t 0
       go true p opposed q off = rw (eqb-true c a p) (street-lines (opposite a) t (street a ha .few) (street a ha .other) ht .0 off)
       go false p true q off =
@@ -81,7 +81,7 @@ module _ (e : List ℕ) (a f v : ℕ) (long : length e ≡ entryCount) (ha : a <
     where
       go :
           (own : Bool) → eqb c a ≡ own → (opposed : Bool) → eqb c (opposite a) ≡ opposed
-          → cond own (names (row .own) (suc t)) (cond opposed (names (row .facing) (suc t)) false) ≡ false
+          → cond own (names (row .own) (suc t)) (cond opposed (faces (row .facing) (suc t)) false) ≡ false
       go true p opposed q = rw (free-number c out (omega (arith, eqb-true c a p)))
       go false p true q = rw (free-number c out (omega (arith, eqb-true c (opposite a) q, street a ha .same-pair)))
       go false p false q = refl

@@ -1,3 +1,4 @@
+-- A refusal leaves the sheet; acceptance says that the entries are fit to be filled from and that each change names one.
 use Rattle.amend_sets.specs.Amend.{amendedTogether}
 use Rattle.amend_sets.proofs.Together.{taken, all-stays}
 use Rattle.answers.proofs.Laws.{renewed}

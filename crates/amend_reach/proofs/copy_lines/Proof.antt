@@ -1,3 +1,4 @@
+-- Line by line: of the cells that the list names, those from the i-th on are still old.
 use Rattle.amend_reach.proofs.Copies.{namedFrom, lines-next, lines-over, next-line}
 use Rattle.amend_reach.proofs.Merging.{Copying, none-copied, one-copied, all-copied}
 use Rattle.amend_reach.specs.Working.{areLines}

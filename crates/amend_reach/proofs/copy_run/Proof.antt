@@ -1,3 +1,4 @@
+-- Cell by cell: of the run, the cells from the next on are still old.
 use Rattle.amend_reach.proofs.Copies.{run-next, run-over}
 use Rattle.amend_reach.proofs.Merging.{Copying, none-copied, one-copied, all-copied}
 use Rattle.amend_reach.specs.Working.{run}

@@ -1,3 +1,4 @@
+-- The entry first, then all of the sheet past the entries or the street of its approach, as the row of its kind says.
 use Rattle.amend_reach.proofs.Whole.{all-written, street-written, all-renewed, same-row, not-cycle}
 use Rattle.amend_reach.specs.Reach.{reachOf}
 use mathlib.Core.Path.{_∙_, ap}

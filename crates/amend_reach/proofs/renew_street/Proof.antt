@@ -1,5 +1,9 @@
+-- Four copies in turn are one copy of the cells of any of them.
+use Rattle.layout.specs.Sheet.{linesOf}
+use Rattle.sheet_cells.specs.Cells.{opposite}
 use Rattle.amend_reach.specs.Working.{streetCells}
 use Rattle.amend_reach.proofs.Merging.{in-turn}
+use Rattle.amend_reach.proofs.Copies.{facing-lines}
 use borrow.Author.Needs.{needs}
 use Rattle.amend_reach.proofs.renew_street.Statement.{statement}
 use Rattle.amend_reach.proofs.renew_street.Tie as tie
@@ -11,11 +15,13 @@ returns c =
     let pair = last .before .before .before .before in
     let facing = pair .before .before .before .before in
     let own = facing .before .before .before .before .before in
+    let a = own .before .before .before .before .args in
     let across = facing .before .before .opposite-of .ensures .0 in
-    in-turn _ _ _ _ _ _ (own .copy-named .ensures) (rw across at (facing .copy-named2 .ensures)) (pair .copy-if .ensures) (last .copy-run .ensures)
+    let faced = rw (across, ← facing-lines (a .reach .facing) (linesOf (opposite (a .approach)))) at (facing .copy-if .ensures) in
+    in-turn _ _ _ _ _ _ (own .copy-named .ensures) faced (pair .copy-if2 .ensures) (last .copy-run .ensures)
 
 pub renew-street-spec : {M : Type 1} → statement M
 renew-street-spec =
     tie.close
     (tie.spec (search needs) (search needs) (search needs) (search needs) (search needs) (search needs) (search needs)
-    (search needs) (search needs) (search needs) (search needs) (search needs) (search needs) returns)
+    (search needs) (search needs) (search needs) (search needs) (search needs) (search needs) (search needs) (search needs) (search needs) returns)

@@ -1,3 +1,4 @@
+-- Change by change: those left, made of the entries as they stand, make the same.
 use Rattle.amend_sets.proofs.Changes.{Made, made-one, made-all, next-entry}
 use Prim.Native.Nat.{_-_, _/_}
 use lib.ListN.{length}

@@ -1,3 +1,4 @@
+-- Change by change: the answer is that of those left.
 use Rattle.amend_sets.proofs.Changes.{Checked, checked-one, checked-all}
 use Rattle.answers.proofs.Laws.{handed-on, go-on}
 use Prim.Native.Nat.{_-_, _/_}

@@ -1,3 +1,4 @@
+-- The sheet's entries take the place of the whole lent list, and the changes are made in it.
 use Rattle.layout.specs.Entries.{entryCount}
 use Rattle.amend_sets.specs.Amend.{entriesWith}
 use Rattle.lists.proofs.Laws.{over-whole}

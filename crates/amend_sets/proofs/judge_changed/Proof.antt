@@ -1,3 +1,4 @@
+-- Each check hands its refusal on; past all of them the entries are those judged.
 use Rattle.amend_sets.specs.Amend.{togetherAnswer}
 use Rattle.amend_sets.proofs.Changes.{never-both}
 use Rattle.sheet_cells.proofs.Cells.{sheet-accepted}

@@ -1,3 +1,4 @@
+-- Change by change: of the cells that some change reaches, those that the changes left reach are still old.
 use Rattle.amend_sets.proofs.Changes.{Renewed, renewed-one, renewed-all, next-entry}
 use Rattle.amend_reach.proofs.Merging.{none-copied}
 use Prim.Native.Nat.{_-_, _/_}
