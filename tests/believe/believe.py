@@ -7,9 +7,14 @@ A public call is a `pub fn` of the crate icu, or one of those that the programs 
 From the names in its `ensures` the definitions in specs/ are followed, through each file's `use` lines, as far as they go; the
 structs and enums that the code declares count where a definition names them. Lines are counted without blank ones.
 
---list   names every definition reached, by file
---check  exits with 1 where a promise reaches a working definition (specs/Working.antt), or a spec file that is none holds a
-         definition that no promise reaches and no other definition does
+The theorem file speaks of some definitions more (runs of amendments, K1 to K10, what fair means): those are counted by themselves.
+All others are working definitions and stand in files of their own: specs/Working.antt, or a file whose first line says so.
+
+--list   names every definition, by what it serves
+The layout is exempt: it names every cell, also those that only proofs and programs ask for.
+
+--check  exits with 1 where a promise reaches a working definition, or a definition that serves neither a promise nor a theorem
+         stands among those that do
 """
 import os
 import re
@@ -20,8 +25,9 @@ CRATES = os.path.join(ROOT, "crates")
 
 # the calls beside those of icu that the programs make their texts and files with
 PUBLIC = {
-    "study": ["site"],
-    "text_reader": ["read", "number_of"],
+    "study": ["site", "entries_of"],
+    "text_numbers": ["number_of"],
+    "text_reader": ["read"],
     "text_writer": ["write"],
     "page": ["print", "changes"],
     "text_refusals": ["say_answer", "say_reading"],
@@ -58,6 +64,12 @@ def uses(text, crate):
     """What each name that a file uses stands for: name -> (crate, file, name)."""
     found = {}
     for line in text.split("\n"):
+        whole = re.match(r"^\s*(?:ghost )?use (Rattle·\S+?) as (\S+?);?$", line)
+        if whole and module_of(whole.group(1), crate):
+            # a module under a name of its own: what follows the name is one of its definitions
+            module = module_of(whole.group(1), crate)
+            for name in re.findall(r"(?<!\S)\(?" + re.escape(whole.group(2)) + r"\.([^\s(){},;]+)", text):
+                found[whole.group(2) + "." + name] = (module[0], module[1], name)
         m = USE.match(line)
         if not m:
             continue
@@ -86,8 +98,14 @@ def read_specs():
             stem = file[:-5]
             text = open(os.path.join(folder, file), encoding="utf-8").read()
             tables[(crate, stem)] = uses(text, crate)
-            current, notes = None, []
+            current, notes, inner = None, [], False
             for line in text.split("\n"):
+                if line.startswith("module _"):
+                    # what stands in a section is indented
+                    inner, current = True, None
+                    continue
+                if inner and line.startswith("  "):
+                    line = line[2:]
                 if re.match(r"^(use|infix)", line):
                     if line.startswith("use"):
                         notes = []
@@ -128,7 +146,8 @@ def read_declared():
 def names_in(text):
     text = re.sub(r'"[^"\n]*"', " ", text)
     text = re.sub(r"(?m)--.*$", " ", text)
-    return set(re.findall(r"[^\s(){}\[\],;⌜⌝⟦⟧.λ]+", text))
+    words = set(re.findall(r"[^\s(){}\[\],;⌜⌝⟦⟧.λ]+", text))
+    return words | set(re.findall(r"[^\s(){}\[\],;⌜⌝⟦⟧.λ]+\.[^\s(){}\[\],;⌜⌝⟦⟧.λ]+", text))
 
 
 def closure(start, table, declared, tables):
@@ -166,13 +185,37 @@ def contracts(crate, wanted):
     path = os.path.join(CRATES, crate, "src", "lib.rt")
     text = open(path, encoding="utf-8").read()
     known = uses(text, crate)
-    for m in re.finditer(r"(?m)^\s*pub (?:extern \"C\" )?fn (\w+)(.*?)^\s*\{\s*$", text, re.S | re.M):
-        name, head = m.group(1), m.group(2)
+    for m in re.finditer(r"(?m)^\s*pub (?:extern \"C\" )?fn (\w+)", text):
+        name, head = m.group(1), re.split(r"\{$|^\s*\{$", text[m.end():], maxsplit=1, flags=re.M)[0]
         if wanted is not None and name not in wanted:
             continue
         promise = "\n".join(re.findall(r"ensures(.*?)(?=ensures|\Z)", head, re.S))
         start = [known[n] for n in names_in(promise) if n in known]
         yield name, start, "requires" in head
+
+
+def theorems(table):
+    """What the statements in the theorem file name."""
+    path = os.path.join(CRATES, "icu", "proofs", "Theorems.antt")
+    text = open(path, encoding="utf-8").read()
+    known = uses(text, "icu")
+    stated = "\n".join(re.findall(r"(?m)^(?:abbrev )?pub .*(?:\n    .*)*", text))
+    start = [known[n] for n in names_in(stated) if n in known]
+    # a theorem may be stated by a record of the laws that prove it
+    for crate in ("line_bounds", "sheet", "study_theorems", "page_form"):
+        folder = os.path.join(CRATES, crate, "proofs")
+        for file in sorted(os.listdir(folder)):
+            if file.endswith(".antt"):
+                law = open(os.path.join(folder, file), encoding="utf-8").read()
+                there = uses(law, crate)
+                for m in re.finditer(r"(?m)^pub record (Refused|PairBlank|Fits|ReadBack|OnPage)\b.*\n(?:  .*\n)+", law):
+                    start += [there[n] for n in names_in(m.group(0)) if n in there]
+    return start
+
+
+def is_working(crate, file):
+    path = os.path.join(CRATES, crate, "specs", file + ".antt")
+    return file == "Working" or open(path, encoding="utf-8").readline().startswith("-- Working")
 
 
 def count(definitions):
@@ -195,19 +238,22 @@ def main():
                 of_icu.update(reached)
     print(f"{'all calls of icu':32} {count(of_icu.values()):5} lines, {len(of_icu):4} definitions")
     print(f"{'all public calls':32} {count(everything.values()):5} lines, {len(everything):4} definitions")
-    working = [d for k, d in table.items() if k[1] == "Working"]
-    rest = [d for k, d in table.items() if k[1] != "Working" and k not in everything]
+    stated = {k: d for k, d in closure(theorems(table), table, declared, tables).items() if k not in everything}
+    working = [d for k, d in table.items() if is_working(k[0], k[1])]
+    astray = [d for k, d in table.items() if k[0] != "layout" and not is_working(k[0], k[1]) and k not in everything and k not in stated]
+    print(f"{'for the theorems, beside them':32} {count(stated.values()):5} lines, {len(stated):4} definitions")
     print(f"{'working definitions':32} {count(working):5} lines, {len(working):4} definitions")
-    print(f"{'stated beside them':32} {count(rest):5} lines, {len(rest):4} definitions")
     for key in sorted(everything):
-        if key[1] == "Working":
-            print(f"a promise reaches a working definition: {key[0]} {key[2]}")
+        if key[1] != "declared" and is_working(key[0], key[1]):
+            print("a promise reaches a working definition:", *key)
             failed = True
+    for d in sorted(astray, key=lambda d: d.key()):
+        print("serves no promise and no theorem:", *d.key())
+        failed = True
     if "--list" in sys.argv:
-        for key in sorted(everything):
-            print("  believed ", *key)
-        for d in sorted(rest, key=lambda d: d.key()):
-            print("  beside   ", *d.key())
+        for title, some in (("believed", everything), ("stated", stated)):
+            for key in sorted(some):
+                print(" ", title, *key)
     if "--check" in sys.argv:
         sys.exit(1 if failed else 0)
 

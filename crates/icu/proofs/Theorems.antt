@@ -5,7 +5,7 @@
 use mathlib.Core.Path.{_≡_, refl, sym, _∙_}
 use mathlib.Core.Bool.{false, cond}
 use mathlib.Core.List.{List}
-use Prim.Native.Nat.{ℕ, _<_, _≤_, _^_}
+use Prim.Native.Nat.{ℕ, _<_, _≤_}
 use lib.ListN.{length, getD, set, take}
 use native.Mathlib.Nat.{zero-add}
 use Rattle.answers.specs.Answers.{_then_, left-by}
@@ -32,6 +32,7 @@ use Rattle.amend_reach.specs.Reach.{merged}
 use Rattle.amend_sets.proofs.Together.{all-stays, all-cells, all-fresh, one-answer, one-amended, amended-is-fresh, refused-stays}
 use Rattle.amend_sets.proofs.Runs.{run-is-fresh, run-keeps}
 use Rattle.lists.specs.Lists.{AllBelow, over}
+use Rattle.study_numbers.specs.Numbers.{numberLimit, byteLimit}
 use Rattle.study.specs.Study.{judgement, countOf, siteEntriesAnswer, siteEntries, writeAnswer, fileOf, fileBytes, sitesIn, entriesUpTo}
 use Rattle.study_listing.specs.Listing.{listing, listAnswer}
 use Rattle.text.specs.Text.{Placed}
@@ -85,12 +86,12 @@ junctions = compared
 
 -- A study file written and read back gives the same sites ..
 pub written-and-read :
-    (entries area : List ℕ) → AllBelow (2 ^ 32) entries → writeAnswer entries (length area) ≡ Accepted
+    (entries area : List ℕ) → AllBelow numberLimit entries → writeAnswer entries (length area) ≡ Accepted
     → studies.ReadBack entries (take (fileBytes (sitesIn entries)) (over area 0 (fileOf entries)))
 written-and-read = studies.written-read
 
 -- .. and a good one read and written gives the same bytes.
-pub read-and-written : (file : List ℕ) → AllBelow 256 file → judgement file ≡ Accepted → fileOf (entriesUpTo file (countOf file)) ≡ file
+pub read-and-written : (file : List ℕ) → AllBelow byteLimit file → judgement file ≡ Accepted → fileOf (entriesUpTo file (countOf file)) ≡ file
 read-and-written = studies.read-written
 
 -- A file longer than any good one is judged by its first bytes, one more than the longest good one has: 59,049.
@@ -135,16 +136,16 @@ pub outside-the-reach :
 outside-the-reach = run-keeps
 
 -- THE ENGINEERS' TEXTS. Any 81 numbers of 32 bits, written as a junction's text and read, are the same numbers ..
-pub written-as-text : (e : List ℕ) → length e ≡ entryCount → AllBelow (2 ^ 32) e → parsed (junctionText e) .entries ≡ e
+pub written-as-text : (e : List ℕ) → length e ≡ entryCount → AllBelow numberLimit e → parsed (junctionText e) .entries ≡ e
 written-as-text = texts.entries-back
 
 -- .. and acceptable ones are read with nothing wrong: the reader leaves them, whatever its list held.
 pub accepted-as-text :
-    (e : List ℕ) → length e ≡ entryCount → AllBelow (2 ^ 32) e → judged e ≡ Accepted → reading (junctionText e) ≡ Read
+    (e : List ℕ) → length e ≡ entryCount → AllBelow numberLimit e → judged e ≡ Accepted → reading (junctionText e) ≡ Read
 accepted-as-text = texts.read-back
 
 pub left-as-text :
-    (e : List ℕ) → length e ≡ entryCount → AllBelow (2 ^ 32) e → (old : List ℕ) → judged e ≡ Accepted
+    (e : List ℕ) → length e ≡ entryCount → AllBelow numberLimit e → (old : List ℕ) → judged e ≡ Accepted
     → keptUnlessRead (reading (junctionText e)) (parsed (junctionText e) .entries) old ≡ e
 left-as-text = texts.left-back
 

@@ -29,9 +29,6 @@ limitsOf PedestrianTime = 0 to 60000 usually 0
 limitsOf FreeRight = 0 to 1 usually 0
 limitsOf Cycle = 30 to 240 usually 120
 
-abbrev pub mostOf : Kind → ℕ
-mostOf k = limitsOf k .most
-
 -- an entry of this kind is "in range"
 unfoldable pub inRange : Kind → ℕ → Bool
 inRange k x = cond (leb (limitsOf k .least) x) (leb x (limitsOf k .most)) false

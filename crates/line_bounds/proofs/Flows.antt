@@ -12,7 +12,8 @@ use Rattle.layout.specs.Entries.{groupCount}
 use Rattle.kinds.specs.declared.Group.{Group}
 use Rattle.kinds.specs.declared.Group.the-variants.{Left, Through, Right}
 use Rattle.kinds.specs.declared.Kind.the-variants.{Lanes, Volume, IdealFlow}
-use Rattle.kinds.specs.Kinds.{limitsOf, mostOf, Within}
+use Rattle.kinds.specs.Kinds.{limitsOf, Within}
+use Rattle.kinds.specs.Working.{mostOf}
 use Rattle.line_factors.specs.Factors.{laneFactor}
 use Rattle.procedure.specs.declared.Approach.{Approach}
 use Rattle.procedure.specs.Approach.{n, v, i, isShared}

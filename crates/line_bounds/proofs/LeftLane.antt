@@ -7,12 +7,13 @@ use native.Mathlib.Decide.{decLt}
 use native.Mathlib.Omega.{arith}
 use lib.Dec.{eqb}
 use borrow.Author.Tests.{eqb-true, eqb-false, ltb-true}
-use Rattle.units.specs.Rounding.{up, up-most}
+use Rattle.units.specs.Rounding.{up}
+use Rattle.units.proofs.Laws.{up-most}
 use Rattle.units.specs.Unit.{flowUnit}
 use Rattle.lists.proofs.Tests.{both-true}
 use Rattle.kinds.specs.declared.Kind.the-variants.{Cycle}
 use Rattle.kinds.specs.declared.Group.the-variants.{Left, Through, Right}
-use Rattle.kinds.specs.Kinds.{mostOf}
+use Rattle.kinds.specs.Working.{mostOf}
 use Rattle.procedure.specs.declared.Approach.{Approach}
 use Rattle.procedure.specs.Approach.{n, v, isShared}
 use Rattle.procedure.specs.Ranges.{Fair, FairCycle}

@@ -12,7 +12,7 @@ use Rattle.lists.proofs.Tests.{both-true}
 use Rattle.layout.specs.Sheet.{BLANK}
 use Rattle.kinds.specs.declared.Kind.the-variants.{Volume}
 use Rattle.kinds.specs.declared.Group.the-variants.{Left, Through, Right}
-use Rattle.kinds.specs.Kinds.{mostOf}
+use Rattle.kinds.specs.Working.{mostOf}
 use Rattle.procedure.specs.declared.Approach.{Approach}
 use Rattle.procedure.specs.Ranges.{Fair, FairCycle}
 use Rattle.procedure.specs.Lines.{firstLines, laterLines, lines}

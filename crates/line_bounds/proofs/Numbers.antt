@@ -6,7 +6,8 @@ use native.Mathlib.Nat.{mul-comm, div-le-of-le-mul, le-div-iff-mul-le, le-mul-of
 use native.Mathlib.Omega.{arith}
 use lib.Dec.{eqb}
 use borrow.Author.Tests.{eqb-false}
-use Rattle.units.specs.Rounding.{up, up-most}
+use Rattle.units.specs.Rounding.{up}
+use Rattle.units.proofs.Laws.{up-most}
 use Rattle.procedure.specs.Lines.{part}
 
 pub record Between (low high x : ℕ) : Type 0 where

@@ -6,12 +6,13 @@ use native.Mathlib.Nat.{mul-le-mul-left, mul-left-comm, mul-assoc, mul-comm, le-
 use native.Mathlib.Omega.{arith}
 use lib.Dec.{eqb}
 use borrow.Author.Tests.{eqb-true, eqb-false, ne-eqb}
-use Rattle.units.specs.Rounding.{up, up-most}
+use Rattle.units.specs.Rounding.{up}
+use Rattle.units.proofs.Laws.{up-most}
 use Rattle.units.specs.Unit.{flowUnit}
 use Rattle.layout.specs.Sheet.{BLANK}
 use Rattle.kinds.specs.declared.Kind.the-variants.{Lanes, Cycle}
 use Rattle.kinds.specs.declared.Group.the-variants.{Left, Through}
-use Rattle.kinds.specs.Kinds.{mostOf}
+use Rattle.kinds.specs.Working.{mostOf}
 use Rattle.procedure.specs.declared.Approach.{Approach}
 use Rattle.procedure.specs.Approach.{n, v, i, isShared}
 use Rattle.procedure.specs.Ranges.{Fair, FairCycle}

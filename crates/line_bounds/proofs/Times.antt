@@ -6,13 +6,14 @@ use native.Mathlib.Nat.{mul-le-mul, mul-le-mul-left, mul-assoc, le-trans, zero-m
 use native.Mathlib.Omega.{arith}
 use lib.Dec.{eqb, ltb}
 use borrow.Author.Tests.{eqb-true}
-use Rattle.units.specs.Rounding.{up, up-most}
+use Rattle.units.specs.Rounding.{up}
+use Rattle.units.proofs.Laws.{up-most}
 use Rattle.units.specs.Unit.{flowUnit}
 use Rattle.lists.proofs.Tests.{both-true}
 use Rattle.kinds.specs.declared.Kind.the-variants.{LostTime, MinimumGreen, Pedestrians, PedestrianTime, Cycle}
 use Rattle.kinds.specs.declared.Group.{Group}
 use Rattle.kinds.specs.declared.Group.the-variants.{Left, Through, Right}
-use Rattle.kinds.specs.Kinds.{mostOf}
+use Rattle.kinds.specs.Working.{mostOf}
 use Rattle.line_decay.specs.Decay.{term, turns, faded, decayNumber as D}
 use Rattle.line_decay.proofs.Laws.{decay-most}
 use Rattle.procedure.specs.declared.Approach.{Approach}

@@ -1,4 +1,4 @@
--- How large the lines of an acceptable approach can be: each bound once, worked out from the kinds' limits and the bounds before it.
+-- Working definitions: how large the lines of an acceptable approach can be, each bound once, worked out from the kinds' limits and the bounds before it.
 use mathlib.Core.Path.{_≡_}
 use mathlib.Core.List.{List}
 use Prim.Native.Nat.{ℕ, _+_, _*_, _/_, _≤_, max}
@@ -6,7 +6,8 @@ use Rattle.units.specs.Unit.{flowUnit}
 use Rattle.layout.specs.Entries.{groupCount}
 use Rattle.layout.specs.Sheet.{BLANK}
 use Rattle.kinds.specs.declared.Kind.the-variants.{Lanes, Volume, IdealFlow, LostTime, MinimumGreen, PedestrianTime, Cycle}
-use Rattle.kinds.specs.Kinds.{limitsOf, mostOf}
+use Rattle.kinds.specs.Kinds.{limitsOf}
+use Rattle.kinds.specs.Working.{mostOf}
 use Rattle.procedure.specs.Pairs.{line}
 
 -- factors, shares and frequencies are ten-thousandths

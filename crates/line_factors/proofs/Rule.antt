@@ -11,7 +11,8 @@ use Rattle.lists.proofs.Tests.{holds-below, both-true, at-each}
 use Rattle.kinds.specs.declared.Group.{Group}
 use Rattle.kinds.specs.declared.Group.the-variants.{Left, Through, Right}
 use Rattle.kinds.specs.Kinds.{groupAt}
-use Rattle.line_factors.specs.Factors.{laneFactor, sixOf}
+use Rattle.line_factors.specs.Factors.{laneFactor}
+use Rattle.line_factors.specs.Working.{sixOf}
 
 -- the numbers of the code's table
 abbrev pub typed : List ℕ

@@ -21,9 +21,3 @@ laneFactor g zero = 0
 laneFactor g (suc zero) = 1_000
 laneFactor g (suc (suc zero)) = twoLanes g
 laneFactor g (suc (suc (suc n))) = moreLanes g
-
--- where a group's factors stand in the code's table, in sixes
-abbrev pub sixOf : Group → ℕ
-sixOf Left = 0
-sixOf Through = 1
-sixOf Right = 2

@@ -1,7 +1,8 @@
 // The lane factors, in thousandths.
 ghost use mathlib.Core.Path.{_≡_};
 ghost use Prim.Native.Nat.{_≤_};
-ghost use Rattle.line_factors.specs.Factors.{laneFactor, sixOf};
+ghost use Rattle.line_factors.specs.Factors.{laneFactor};
+ghost use Rattle.line_factors.specs.Working.{sixOf};
 use kinds::Group;
 
 // One to six lanes of the left, the through and the right group.

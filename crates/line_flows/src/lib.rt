@@ -4,7 +4,7 @@ ghost use mathlib.Core.Bool.{cond};
 ghost use Prim.Native.Nat.{_≤_};
 ghost use Rattle.kinds.specs.declared.Kind.the-variants.{Lanes as LaneKind, IdealFlow};
 ghost use Rattle.kinds.specs.declared.Group.the-variants.{Left, Through};
-ghost use Rattle.kinds.specs.Kinds.{mostOf};
+ghost use Rattle.kinds.specs.Working.{mostOf};
 ghost use Rattle.procedure.specs.Lines.{turningT, turningST, flowOf, flow, sST, sSL};
 ghost use Rattle.procedure.specs.Ranges.{Fair};
 ghost use Rattle.line_bounds.specs.Bounds.{whole, mostVolume};

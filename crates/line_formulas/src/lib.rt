@@ -4,7 +4,7 @@ ghost use Prim.Native.Nat.{_*_, _+_, _≤_, max};
 ghost use Rattle.units.specs.Unit.{flowUnit};
 ghost use Rattle.kinds.specs.declared.Group.the-variants.{Through};
 ghost use Rattle.kinds.specs.declared.Kind.the-variants.{LostTime, MinimumGreen, Cycle as CycleKind};
-ghost use Rattle.kinds.specs.Kinds.{mostOf};
+ghost use Rattle.kinds.specs.Working.{mostOf};
 ghost use Rattle.procedure.specs.Approach.{lost, green, crossing};
 ghost use Rattle.procedure.specs.Lines.{time, part, adjustedOf, weightedOf};
 ghost use Rattle.procedure.specs.Ranges.{Fair};

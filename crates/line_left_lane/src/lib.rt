@@ -3,7 +3,7 @@ ghost use mathlib.Core.Path.{_≡_};
 ghost use Prim.Native.Nat.{_+_, _-_, _*_, _/_, _^_, _≤_, _<_};
 ghost use Rattle.units.specs.Rounding.{up};
 ghost use Rattle.kinds.specs.declared.Kind.the-variants.{Lanes as LaneKind};
-ghost use Rattle.kinds.specs.Kinds.{mostOf};
+ghost use Rattle.kinds.specs.Working.{mostOf};
 ghost use Rattle.procedure.specs.Ranges.{Fair, FairCycle};
 ghost use Rattle.procedure.specs.Lines.{heaviest, equivalent, flowA};
 ghost use Rattle.line_bounds.specs.Bounds.{whole, mostVolume, leastLaneFlow, mostFlow, mostEquivalent};

@@ -1,4 +1,4 @@
--- The stages' values as the cells of an approach, in the lines' order.
+-- Working definitions: the stages' values as the cells of an approach, in the lines' order.
 use mathlib.Core.List.{List, [], _∷_, _++_}
 use Prim.Native.Nat.{ℕ}
 use Rattle.line_stages.specs.declared.Volumes.{Volumes}

@@ -1,4 +1,4 @@
--- What each stage of the lines hands on, a value for each line in its unit: these are the lines of `procedure`, put into the stages' structs.
+-- Working definitions: what each stage of the lines hands on, the lines of `procedure` put into the stages' structs, each in its unit.
 use mathlib.Core.Bool.{Bool}
 use Prim.Native.Nat.{ℕ}
 use Rattle.units.specs.declared.Ms.{Ms}

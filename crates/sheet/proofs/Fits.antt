@@ -9,11 +9,12 @@ use native.Mathlib.Omega.{arith}
 use lib.Dec.{eqb, leb, lit≤, lit<}
 use lib.ListN.{getD, List·getD-eq-default}
 use borrow.Author.Tests.{leb-true}
-use Rattle.units.specs.Rounding.{up-most}
+use Rattle.units.proofs.Laws.{up-most}
 use Rattle.layout.specs.Entries.{approachCount, entryCount, EB, WB, NB, SB}
 use Rattle.layout.specs.Sheet.{BLANK}
 use Rattle.lists.proofs.Tests.{at-each}
-use Rattle.kinds.specs.Kinds.{mostOf, kindAt}
+use Rattle.kinds.specs.Kinds.{kindAt}
+use Rattle.kinds.specs.Working.{mostOf}
 use Rattle.answers.specs.declared.Answer.the-variants.{Accepted}
 use Rattle.entries.specs.Layout.{cycle}
 use Rattle.entries.specs.Judging.{judged}

@@ -1,4 +1,4 @@
--- A pair's values as its cells: "protected .. permitted .. split .. picked"
+-- Working definition: a pair's values as its cells, "protected .. permitted .. split .. picked"
 use mathlib.Core.List.{List, [], _∷_}
 use Prim.Native.Nat.{ℕ}
 use Rattle.sheet_pairs.specs.declared.Pair.{Pair}

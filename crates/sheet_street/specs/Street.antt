@@ -1,4 +1,4 @@
--- What the filling knows of a street: the lines of two opposite approaches, and the cells of their pair.
+-- Working definition: what the filling knows of a street, the lines of two opposite approaches, and the cells of their pair.
 use mathlib.Core.Path.{_≡_}
 use mathlib.Core.Bool.{_||_}
 use Prim.Native.Nat.{ℕ}

@@ -6,12 +6,13 @@ use Rattle.answers.specs.declared.Answer.{Answer}
 use Rattle.study_format.specs.declared.Format.{Format}
 use Rattle.study_format.specs.Format as format
 
+-- "k (0–180)"
+abbrev pub siteLimit : ℕ
+siteLimit = 180
+
 -- "the four bytes "ICUS" open the file, then k (0–180), .. blocks of 81 entries"
 abbrev pub icus : Format
-icus = record { opening = 73 ∷ 67 ∷ 85 ∷ 83 ∷ []; entries = entryCount; most = 180 }
-
-abbrev pub siteLimit : ℕ
-siteLimit = icus .most
+icus = record { opening = 73 ∷ 67 ∷ 85 ∷ 83 ∷ []; entries = entryCount; most = siteLimit }
 
 abbrev pub blockBytes : ℕ
 blockBytes = format.blockBytes icus

@@ -10,7 +10,8 @@ use borrow.Author.Tests.{ltb-true, ltb-false, lt-ltb, le-ltb}
 use native.Mathlib.Nat.{pow-suc}
 use native.Mathlib.Omega.{arith}
 use Rattle.lists.proofs.Laws.{store-over, over-next}
-use Rattle.text.specs.Text.{digit, digits, digitMost, decimal, numberThen, spelled, Placed}
+use Rattle.text.specs.Text.{digit, digits, digitMost, decimal, numberThen, Placed}
+use Rattle.text.specs.Working.{spelled}
 
 -- a number of one digit, and one of more
 

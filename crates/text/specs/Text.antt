@@ -40,11 +40,6 @@ decimal number = digits digitMost number
 unfoldable pub numberThen : ℕ → ℕ → List ℕ
 numberThen number byte = decimal number ++ (byte ∷ [])
 
--- the number that digits spell, after those that spell `before`
-unfoldable pub spelled : ℕ → List ℕ → ℕ
-spelled before [] = before
-spelled before (byte ∷ bytes) = spelled (10 * before + (byte - 48)) bytes
-
 -- a part put at a place, and the place past it
 pub record Placed (before : List ℕ) (at : ℕ) (part after : List ℕ) (past : ℕ) : Type 0 where
   pub is : after ≡ over before at part

@@ -1,17 +1,6 @@
--- "Times are rounded up": the quotient rounded up, and the bounds that callers lean on.
-use mathlib.Core.Path.{_≡_, refl}
-use Prim.Native.Nat.{ℕ, zero, suc, _+_, _-_, _*_, _/_, _≤_, _<_}
-use native.Mathlib.Nat.{div-lt-iff-lt-mul, div-zero, suc-mul, le-of-suc-le-suc}
-use native.Mathlib.Omega.{arith}
+-- "Times are rounded up": the quotient rounded up.
+use Prim.Native.Nat.{ℕ, _+_, _-_, _/_}
 
 -- a / b, rounded up. (antt's quotient by 0 is 0, and so is this one.)
 unfoldable pub up : ℕ → ℕ → ℕ
 up a b = (a + (b - 1)) / b
-
--- a quotient of at most q stays so when it is rounded up to a whole number
-pub up-most : (q a b : ℕ) → a ≤ q * b → up a b ≤ q
-unfolding up
-up-most q a zero h = omega (arith, div-zero (a + (0 - 1)))
-up-most q a (suc b) h =
-    le-of-suc-le-suc
-    (div-lt-iff-lt-mul {k = suc b} {x = a + (suc b - 1)} {y = suc q} (omega arith) .1 (omega (arith, suc-mul q (suc b))))

@@ -1,5 +1,5 @@
 use Rattle.line_factors.proofs.Rule.{rule}
-use Rattle.line_factors.specs.Factors.{sixOf}
+use Rattle.line_factors.specs.Working.{sixOf}
 use native.Mathlib.Omega.{arith}
 use Prim.Native.Nat.{_≤_}
 use mathlib.Core.Path.{_≡_}

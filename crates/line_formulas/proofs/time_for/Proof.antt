@@ -1,6 +1,6 @@
 use Rattle.units.specs.Unit.{flowUnit}
 use Rattle.kinds.specs.declared.Kind.the-variants.{Cycle}
-use Rattle.kinds.specs.Kinds.{mostOf}
+use Rattle.kinds.specs.Working.{mostOf}
 use Rattle.line_bounds.specs.Bounds.{mostVolume, mostTime, mostMixedServed}
 use Rattle.line_bounds.proofs.Times.{volume-room, time-most}
 use Rattle.procedure.specs.Lines.{time}

@@ -1,7 +1,7 @@
 use Rattle.line_bounds.specs.Bounds.{whole, mostEquivalent}
 use Rattle.line_bounds.proofs.LeftLane.{EquivalentRoom, equivalent-room, equivalent-alike}
 use Rattle.procedure.specs.Lines.{equivalent}
-use Rattle.units.specs.Rounding.{up-most}
+use Rattle.units.proofs.Laws.{up-most}
 use native.Mathlib.Nat.{mul-le-mul}
 use native.Mathlib.Omega.{arith}
 use Prim.Native.Nat.{_*_, _-_, _≤_}

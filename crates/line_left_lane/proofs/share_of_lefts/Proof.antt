@@ -1,5 +1,5 @@
 use Rattle.line_bounds.specs.Bounds.{whole}
-use Rattle.units.specs.Rounding.{up-most}
+use Rattle.units.proofs.Laws.{up-most}
 use Prim.Native.Nat.{_*_}
 use native.Mathlib.Omega.{arith}
 use borrow.Author.Needs.{needs}

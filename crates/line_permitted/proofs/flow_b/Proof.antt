@@ -5,7 +5,7 @@ use native.Mathlib.Nat.{mul-le-mul}
 use Prim.Native.Nat.{_<_}
 use Rattle.kinds.specs.declared.Group.the-variants.{Through}
 use Rattle.kinds.specs.declared.Kind.the-variants.{Lanes}
-use Rattle.kinds.specs.Kinds.{mostOf}
+use Rattle.kinds.specs.Working.{mostOf}
 use Rattle.procedure.specs.Approach.{n}
 use Rattle.procedure.specs.Lines.{sB}
 use Rattle.line_bounds.specs.Bounds.{mostFlow}

@@ -1,7 +1,7 @@
 use native.Mathlib.Omega.{arith}
 use native.Mathlib.Nat.{mul-le-mul}
 use Prim.Native.Nat.{_*_, _≤_}
-use Rattle.units.specs.Rounding.{up-most}
+use Rattle.units.proofs.Laws.{up-most}
 use Rattle.line_bounds.specs.Bounds.{mostHeld}
 use borrow.Author.Needs.{needs}
 use Rattle.line_walkers.proofs.share.Statement.{statement}

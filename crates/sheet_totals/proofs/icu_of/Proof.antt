@@ -1,5 +1,6 @@
 use Rattle.procedure.specs.Pairs.{icuOf}
-use Rattle.units.specs.Rounding.{up, up-most}
+use Rattle.units.specs.Rounding.{up}
+use Rattle.units.proofs.Laws.{up-most}
 use native.Mathlib.Omega.{arith}
 use native.Mathlib.Nat.{mul-le-mul-left, mul-one}
 use Prim.Native.Nat.{_*_, _≤_}
