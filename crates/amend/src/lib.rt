@@ -1,29 +1,24 @@
-// One entry of a sheet amended.
+// Entries of a sheet amended: some together, or one.
 ghost use mathlib.Core.Path.{_≡_};
-ghost use Prim.Native.Nat.{_<_};
-ghost use lib.ListN.{length};
-ghost use Rattle.amend.specs.Amend.{entriesWith, entryAnswer, amendAnswer, amended};
+ghost use Rattle.amend_sets.specs.Amend.{togetherAnswer, amendedTogether, amendAnswer, amended};
+ghost use Rattle.amend_sets.specs.Working.{changesOf};
 use answers::Answer;
-use answers::Refusal;
 
-fn check_entry(entry: u32) -> Answer
-    ensures { λ r. ⌜ r ≡ entryAnswer entry ⌝ }
+// Makes changes of a sheet's entries, an entry and its new value in turn, and writes anew every cell that one of them reaches;
+// where they are refused, judged as all would stand, the sheet stays as it was.
+pub fn amend_together(sheet: &mut [u32], changes: &[u32]) -> Answer
+    ensures { λ r. ⌜ r ≡ togetherAnswer (now (sheet .entry)) (changesOf (now (changes .entry))) ⌝ }
+    ensures { λ r. ⌜ now (sheet .exit) ≡ amendedTogether (now (sheet .entry)) (changesOf (now (changes .entry))) ⌝ }
 {
-    if 80 < entry {
-        return Answer::Refused(Refusal::Entry, 0);
-    }
+    let mut entries = [0u32; layout::ENTRIES];
+    let judged = amend_sets::judge_changed(sheet, changes, &mut entries);
+    let Answer::Accepted = judged else {
+        return judged;
+    };
+    let mut fresh = [0u32; layout::CELLS];
+    sheet::write_fresh(&entries, &mut fresh);
+    amend_sets::renew_changed(sheet, &fresh, changes);
     Answer::Accepted
-}
-
-// The entries of a sheet, with one of them changed.
-fn entries_with(sheet: &[u32], entry: usize, value: u32) -> [u32; 81]
-    requires { ⌜ (length (now sheet) ≡ 209) × (entry < 81) ⌝ }
-    ensures { λ r. ⌜ r ≡ entriesWith (now (sheet .entry)) entry value ⌝ }
-{
-    let mut entries = [0u32; 81];
-    lists::put(&mut entries, 0, &sheet[..81]);
-    entries[entry] = value;
-    entries
 }
 
 // Changes one entry of a sheet and writes anew every cell that it reaches; where it is refused, the sheet stays as it was.
@@ -31,22 +26,5 @@ pub fn amend(sheet: &mut [u32], entry: u32, value: u32) -> Answer
     ensures { λ r. ⌜ r ≡ amendAnswer (now (sheet .entry)) entry value ⌝ }
     ensures { λ r. ⌜ now (sheet .exit) ≡ amended (now (sheet .entry)) entry value ⌝ }
 {
-    let size = sheet::check_sheet(sheet);
-    let Answer::Accepted = size else {
-        return size;
-    };
-    let known = check_entry(entry);
-    let Answer::Accepted = known else {
-        return known;
-    };
-    let place = entry as usize;
-    let entries = entries_with(sheet, place, value);
-    let judged = entries::judge(&entries);
-    let Answer::Accepted = judged else {
-        return judged;
-    };
-    let mut fresh = [0u32; 209];
-    sheet::write_fresh(&entries, &mut fresh);
-    amend_reach::renew(sheet, &fresh, place);
-    Answer::Accepted
+    amend_together(sheet, &[entry, value])
 }

@@ -1,9 +1,4 @@
-pub mod Copies
 pub mod Merging
-pub mod Cells
-pub mod Street
-pub mod Numbers
-pub mod Lines
+pub mod Copies
 pub mod Parts
-pub mod Untouched
 pub mod Whole

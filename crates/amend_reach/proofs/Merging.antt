@@ -88,15 +88,6 @@ merged-again m p k (x ∷ fresh) (y ∷ old) = rw (merged-again m p (suc k) fres
     twice true = refl
     twice false = refl
 
--- so is one cell stored after a merge
-pub merged-then-one :
-    (m : ℕ → Bool) (fresh old : List ℕ) → length fresh ≡ length old → (i : ℕ) → i < length old
-    → set (mergedFrom m 0 fresh old) i (getD fresh i 0) ≡ mergedFrom (λ j. eqb j i || m j) 0 fresh old
-merged-then-one m fresh old same i h =
-    let whole = mergedFrom m 0 fresh old in
-    let long : length whole ≡ length old = length-merged m 0 fresh old same in
-    merged-one (λ j. eqb j i) fresh whole (omega arith) i (λ j. refl) (omega arith) ∙ merged-again m (λ j. eqb j i) 0 fresh old
-
 -- of the cells that p names, those that q names are still old
 pub record Copying (p q : ℕ → Bool) (fresh old cells : List ℕ) : Type 0 where
   pub same : length fresh ≡ length cells
@@ -106,18 +97,24 @@ pub record Copying (p q : ℕ → Bool) (fresh old cells : List ℕ) : Type 0 wh
 pub none-copied : {p : ℕ → Bool} {fresh old : List ℕ} → length fresh ≡ length old → Copying p p fresh old old
 none-copied same = record { same = same; long = refl; is = refl }
 
-pub one-copied :
-    {p q : ℕ → Bool} {fresh old cells : List ℕ} (r : ℕ → Bool) (i : ℕ) → i < length cells → ((j : ℕ) → q j ≡ (r j || eqb j i))
-    → Copying p q fresh old cells → Copying p r fresh old (set cells i (getD fresh i 0))
-one-copied {p} {q} {fresh} {old} {cells} r i h split c =
-    let size = length-set cells i (getD fresh i 0) in
+pub some-copied :
+    {p q : ℕ → Bool} {fresh old cells : List ℕ} (r s : ℕ → Bool) → ((j : ℕ) → q j ≡ (r j || s j))
+    → Copying p q fresh old cells → Copying p r fresh old (mergedFrom s 0 fresh cells)
+some-copied {p} {q} {fresh} {old} {cells} r s split c =
+    let size = length-merged s 0 fresh cells (c .same) in
     record {
       same = c .same ∙ sym size;
       long = size ∙ c .long;
       is =
-          c .is ∙ merged-same q fresh cells (c .same) (λ j. r j || eqb j i) (λ j _. split j)
-          ∙ sym (rw (merged-one (λ j. eqb j i) fresh cells (c .same) i (λ j. refl) h) (merged-again (λ j. eqb j i) r 0 fresh cells));
+          c .is ∙ merged-same q fresh cells (c .same) (λ j. r j || s j) (λ j _. split j)
+          ∙ sym (merged-again s r 0 fresh cells);
     }
+
+pub one-copied :
+    {p q : ℕ → Bool} {fresh old cells : List ℕ} (r : ℕ → Bool) (i : ℕ) → i < length cells → ((j : ℕ) → q j ≡ (r j || eqb j i))
+    → Copying p q fresh old cells → Copying p r fresh old (set cells i (getD fresh i 0))
+one-copied {p} {q} {fresh} {old} {cells} r i h split c =
+    rw (merged-one (λ j. eqb j i) fresh cells (c .same) i (λ j. refl) h) (some-copied r (λ j. eqb j i) split c)
 
 pub all-copied :
     {p q : ℕ → Bool} {fresh old cells : List ℕ} → ((j : ℕ) → q j ≡ false) → Copying p q fresh old cells

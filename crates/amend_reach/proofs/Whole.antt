@@ -1,239 +1,175 @@
--- The copies together write what is reached.
+-- The copies together write what is reached: each copy's cells, part by part of the sheet, are those that the row reaches there.
 use mathlib.Core.Path.{_≡_, refl, sym, _∙_}
 use mathlib.Core.Bool.{Bool, true, false, cond, _&&_, _||_, and-false, and-true, and-comm, or-false}
 use mathlib.Core.List.{List}
-use Prim.Native.Nat.{ℕ, suc, _+_, _-_, _*_, _/_, _%_, _≤_, _<_}
-use native.Mathlib.Decide.{decLt, decLe, ℕ-discrete}
+use Prim.Native.Nat.{ℕ, suc, _+_, _-_, _/_, _%_, _≤_, _<_}
+use native.Mathlib.Decide.{decLt, ℕ-discrete}
 use native.Mathlib.Omega.{arith}
-use lib.Dec.{leb, eqb, leb·suc-suc}
+use lib.Dec.{eqb}
 use lib.ListN.{length, getD, set}
-use borrow.Author.Tests.{eqb-true, le-leb, lt-leb, eq-eqb, ne-eqb}
-use Rattle.kinds.specs.declared.Kind.{Kind}
-use Rattle.kinds.specs.declared.Kind.the-variants.{Lanes, Volume, IdealFlow, LostTime, MinimumGreen, SharedLane, Pedestrians, PushButton, PedestrianTime, FreeRight, Cycle}
+use borrow.Author.Tests.{eqb-true, eq-eqb, ne-eqb}
+use Rattle.layout.specs.Entries.{approachCount, cycleEntry, entryCount}
+use Rattle.layout.specs.Sheet.{lineCount, linesFrom, linesOf, pairCells, pairsFrom, pairOf, lastFrom, sheetCount}
 use Rattle.kinds.specs.Kinds.{kindAt}
-use Rattle.amend_reach.specs.Reach.{ownLine, oppositeLine, ownPair, everywhere, approachAt, opposite, reachedLine, reachedPair, reached, mergedFrom, merged}
-use Rattle.amend_reach.specs.Copies.{run, runIf, linesAfter}
-use Rattle.amend_reach.proofs.Merging.{merged-same, merged-again, merged-then-one}
+use Rattle.sheet_cells.specs.Cells.{opposite}
+use Rattle.sheet_cells.proofs.Street.{street}
+use Rattle.amend_reach.specs.declared.Reach.{Reach}
+use Rattle.amend_reach.specs.Reach.{names, reachOf, approachAt, reachedLine, reachedPair, reached, mergedFrom, merged}
+use Rattle.amend_reach.specs.Working.{run, runIf, linesNamed, SameRow, streetCells}
+use Rattle.amend_reach.proofs.Merging.{merged-one, merged-same, merged-again}
 use Rattle.amend_reach.proofs.Copies.{in-run, before-run, after-run}
-use Rattle.lists.proofs.Tests.{each-below}
 use Rattle.amend_reach.proofs.Parts.{at-entry, at-line, at-pair, at-last}
-use Rattle.amend_reach.proofs.Street.{street}
 
-same-leb : (m n p q : ℕ) → (m ≤ n → p ≤ q) → (p ≤ q → m ≤ n) → leb m n ≡ leb p q
-same-leb m n p q to fro = go (decLe m n) (decLe p q)
-  where
-    go : Dec (m ≤ n) → Dec (p ≤ q) → leb m n ≡ leb p q
-    go (yes h) _ = rw (le-leb m n h, le-leb p q (to h))
-    go (no h) (yes r) = absurd (h (fro r))
-    go (no h) (no r) = rw (lt-leb m n (omega arith), lt-leb p q (omega arith))
-
--- lines from `lo` on and before `hi` of approach a, at line t + 1 of approach c
-run-at :
-    (a c t k lo hi : ℕ) → k ≡ 81 + 28 * c + t → t < 28 → 1 ≤ lo → hi ≤ 29
-    → run (80 + 28 * a + lo) (80 + 28 * a + hi) k ≡ cond (eqb c a) (run lo hi (suc t)) false
-unfolding run
-run-at a c t k lo hi at h low high = go (ℕ-discrete c a) (decLt c a)
-  where
-    go : Dec (c ≡ a) → Dec (c < a) → run (80 + 28 * a + lo) (80 + 28 * a + hi) k ≡ cond (eqb c a) (run lo hi (suc t)) false
-    go (yes p) _ =
-        rw (
-          eq-eqb c a p,
-          same-leb (80 + 28 * a + lo) k lo (suc t) (λ r. omega arith) (λ r. omega arith),
-          same-leb (suc k) (80 + 28 * a + hi) (suc (suc t)) hi (λ r. omega arith) (λ r. omega arith),
-        )
-    go (no p) (yes q) = rw (ne-eqb c a p) (before-run (80 + 28 * a + lo) (80 + 28 * a + hi) k (omega arith))
-    go (no p) (no q) = rw (ne-eqb c a p) (after-run (80 + 28 * a + lo) (80 + 28 * a + hi) k (omega arith))
-
--- the lines that a test names
+-- lines of approach a, at line t + 1 of approach c
 lines-at :
-    (a c t k : ℕ) (test : ℕ → Bool) → k ≡ 81 + 28 * c + t → t < 28
-    → linesAfter (80 + 28 * a) test k ≡ cond (eqb c a) (test (suc t)) false
-unfolding linesAfter
-lines-at a c t k test at h = rw (run-at a c t k 1 29 at h (omega arith) (omega arith), in-run 1 29 (suc t) (omega arith) (omega arith)) (go (eqb c a) refl)
+    (a c t k : ℕ) (test : ℕ → Bool) → k ≡ linesOf c + t → t < lineCount
+    → linesNamed (linesOf a) test k ≡ cond (eqb c a) (test (suc t)) false
+unfolding linesNamed
+lines-at a c t k test at h = go (ℕ-discrete c a) (decLt c a)
   where
-    go : (own : Bool) → eqb c a ≡ own → (test (k - (80 + 28 * a)) && cond own true false) ≡ cond own (test (suc t)) false
-    go true p =
-        let same : c ≡ a = eqb-true c a p in
-        let line : k - (80 + 28 * a) ≡ suc t = omega arith in
-        rw line (and-true (test (suc t)))
-    go false p = and-false (test (k - (80 + 28 * a)))
+    go :
+        Dec (c ≡ a) → Dec (c < a)
+        → (test (suc (k - linesOf a)) && run (linesOf a) (linesOf a + lineCount) k) ≡ cond (eqb c a) (test (suc t)) false
+    go (yes p) _ =
+        let line : k - linesOf a ≡ t = omega arith in
+        rw (eq-eqb c a p, in-run (linesOf a) (linesOf a + lineCount) k (omega arith) (omega arith), line) (and-true (test (suc t)))
+    go (no p) (yes q) = rw (ne-eqb c a p, before-run (linesOf a) (linesOf a + lineCount) k (omega arith)) (and-false (test (suc (k - linesOf a))))
+    go (no p) (no q) = rw (ne-eqb c a p, after-run (linesOf a) (linesOf a + lineCount) k (omega arith)) (and-false (test (suc (k - linesOf a))))
 
--- before a run that is wanted or not
-before-if : (wanted : Bool) (from to k : ℕ) → k < from → runIf wanted from to k ≡ false
-unfolding runIf
-before-if wanted from to k h = rw (before-run from to k h) (and-false wanted)
+-- and where none of them stands
+before-lines : (first : ℕ) (test : ℕ → Bool) (k : ℕ) → k < first → linesNamed first test k ≡ false
+unfolding linesNamed
+before-lines first test k h = rw (before-run first (first + lineCount) k h) (and-false (test (suc (k - first))))
 
--- the lines after a cell, where none of them stands
-module _ (before : ℕ) (test : ℕ → Bool) (k : ℕ) where
-  before-lines : k ≤ before → linesAfter before test k ≡ false
-  unfolding linesAfter
-  before-lines h = rw (before-run (before + 1) (before + 29) k (omega arith), and-false (test (k - before)))
+after-lines : (first : ℕ) (test : ℕ → Bool) (k : ℕ) → first + lineCount ≤ k → linesNamed first test k ≡ false
+unfolding linesNamed
+after-lines first test k h = rw (after-run first (first + lineCount) k h) (and-false (test (suc (k - first))))
 
-  after-lines : before + 29 ≤ k → linesAfter before test k ≡ false
-  unfolding linesAfter
-  after-lines h = rw (after-run (before + 1) (before + 29) k h, and-false (test (k - before)))
+in-pair : (q k : ℕ) → pairsFrom ≤ k → run (pairOf q) (pairOf q + pairCells) k ≡ eqb ((k - pairsFrom) / pairCells) q
+in-pair q k h = go (decLt k (pairOf q)) (decLt k (pairOf q + pairCells))
+  where
+    go : Dec (k < pairOf q) → Dec (k < pairOf q + pairCells) → run (pairOf q) (pairOf q + pairCells) k ≡ eqb ((k - pairsFrom) / pairCells) q
+    go (yes p) _ = rw (before-run (pairOf q) (pairOf q + pairCells) k p) (sym (ne-eqb _ q (λ e. omega arith)))
+    go (no p) (yes r) = rw (in-run (pairOf q) (pairOf q + pairCells) k (omega arith) r) (sym (eq-eqb _ q (omega arith)))
+    go (no p) (no r) = rw (after-run (pairOf q) (pairOf q + pairCells) k (omega arith)) (sym (ne-eqb _ q (λ e. omega arith)))
 
--- those of the approach opposite are 21 to 26
-abbrev firstAcross : ℕ
-firstAcross = 21
+-- a copy of the cells of m writes at k what a row reaches past the entries
+pub record Writes (reach : Reach) (a : ℕ) (m : ℕ → Bool) (k : ℕ) : Type 0 where
+  pub entries : k < entryCount → m k ≡ false
+  pub lines : linesFrom ≤ k → k < pairsFrom → m k ≡ reachedLine reach a ((k - linesFrom) / lineCount) (suc ((k - linesFrom) % lineCount))
+  pub pairs : pairsFrom ≤ k → k < lastFrom → m k ≡ reachedPair reach a ((k - pairsFrom) / pairCells)
+  pub last : lastFrom ≤ k → k < sheetCount → m k ≡ true
 
-across-lines :
-    (kind : Kind) (k : ℕ) → oppositeLine kind k ≡ (everywhere kind || (oppositeLine kind 26 && (leb firstAcross k && leb k 26)))
-across-lines Lanes k = refl
-across-lines Volume k = refl
-across-lines IdealFlow k = refl
-across-lines LostTime k = refl
-across-lines MinimumGreen k = refl
-across-lines SharedLane k = refl
-across-lines Pedestrians k = refl
-across-lines PushButton k = refl
-across-lines PedestrianTime k = refl
-across-lines FreeRight k = refl
-across-lines Cycle k = refl
+pub all-written : {reach : Reach} (a : ℕ) → reach .everywhere ≡ true → (k : ℕ) → Writes reach a (run linesFrom sheetCount) k
+unfolding reachedLine reachedPair
+all-written a all k =
+    record {
+      entries = λ p. before-run linesFrom sheetCount k p;
+      lines = λ h p. rw (in-run linesFrom sheetCount k h (omega arith), all);
+      pairs = λ h p. rw (in-run linesFrom sheetCount k (omega arith) (omega arith), all);
+      last = λ h p. in-run linesFrom sheetCount k (omega arith) p;
+    }
 
-across-run : (k : ℕ) → run firstAcross 27 k ≡ (leb firstAcross k && leb k 26)
-unfolding run
-across-run k = rw (leb·suc-suc k 26)
+module _ (reach : Reach) (a : ℕ) (few : a < approachCount) (quiet : reach .everywhere ≡ false) (k : ℕ) where
+  at-lines :
+      linesFrom ≤ k → k < pairsFrom → streetCells reach a k ≡ reachedLine reach a ((k - linesFrom) / lineCount) (suc ((k - linesFrom) % lineCount))
+  unfolding streetCells runIf reachedLine
+  at-lines h p =
+      rw (
+        before-run lastFrom sheetCount k (omega arith),
+        before-run (pairOf (a / 2)) (pairOf (a / 2) + pairCells) k (omega arith),
+        and-false (reach .pair),
+        lines-at (opposite a) c t k (names (reach .facing)) at (omega arith),
+        lines-at a c t k (names (reach .own)) at (omega arith),
+        quiet,
+      )
+      (go (eqb c a) refl (eqb c (opposite a)) refl)
+    where
+      c : ℕ
+      c = (k - linesFrom) / lineCount
 
--- only the cycle reaches everywhere
-quiet : (i : ℕ) → i < 80 → everywhere (kindAt i) ≡ false
+      t : ℕ
+      t = (k - linesFrom) % lineCount
+
+      at : k ≡ linesOf c + t
+      at = omega arith
+
+      own : Bool
+      own = names (reach .own) (suc t)
+
+      facing : Bool
+      facing = names (reach .facing) (suc t)
+
+      go :
+          (mine : Bool) → eqb c a ≡ mine → (other : Bool) → eqb c (opposite a) ≡ other
+          → (cond other facing false || cond mine own false) ≡ cond mine own (cond other facing false)
+      go true m true o = absurd (street a few .other (sym (eqb-true c _ o) ∙ eqb-true c _ m))
+      go true m false o = refl
+      go false m true o = or-false facing
+      go false m false o = refl
+
+  at-pairs : pairsFrom ≤ k → k < lastFrom → streetCells reach a k ≡ reachedPair reach a ((k - pairsFrom) / pairCells)
+  unfolding streetCells runIf reachedPair
+  at-pairs h p =
+      let cell = reach .pair && eqb ((k - pairsFrom) / pairCells) (a / 2) in
+      rw (
+        before-run lastFrom sheetCount k (omega arith),
+        in-pair (a / 2) k h,
+        after-lines (linesOf (opposite a)) (names (reach .facing)) k (omega (arith, street a few .few)),
+        after-lines (linesOf a) (names (reach .own)) k (omega arith),
+        quiet,
+        or-false cell,
+        or-false cell,
+      )
+      (and-comm (reach .pair) (eqb ((k - pairsFrom) / pairCells) (a / 2)))
+
+  at-entries : k < entryCount → streetCells reach a k ≡ false
+  unfolding streetCells runIf
+  at-entries h =
+      rw (
+        before-run lastFrom sheetCount k (omega arith),
+        before-run (pairOf (a / 2)) (pairOf (a / 2) + pairCells) k (omega arith),
+        and-false (reach .pair),
+        before-lines (linesOf (opposite a)) (names (reach .facing)) k (omega arith),
+        before-lines (linesOf a) (names (reach .own)) k (omega arith),
+      )
+
+  at-end : lastFrom ≤ k → k < sheetCount → streetCells reach a k ≡ true
+  unfolding streetCells
+  at-end h p = rw (in-run lastFrom sheetCount k h p)
+
+  pub street-written : Writes reach a (streetCells reach a) k
+  street-written = record { entries = at-entries; lines = at-lines; pairs = at-pairs; last = at-end }
+
+pub same-row : {r s : Reach} → SameRow r s → r ≡ s
+same-row {r} {s} (own, facing, pair, everywhere) =
+    let parts : r ≡ record { own = r .own; facing = r .facing; pair = r .pair; everywhere = r .everywhere } = refl in
+    parts ∙ rw (own, facing, pair, everywhere)
+
+-- what a copy of those cells makes of a sheet in which the entry itself is fresh
+module _ (fresh old : List ℕ) (same : length fresh ≡ length old) (long : length old ≡ sheetCount) (i : ℕ) (hi : i < entryCount) where
+  pub all-renewed :
+      {m : ℕ → Bool} → ((k : ℕ) → Writes (reachOf (kindAt i)) (approachAt i) m k)
+      → mergedFrom m 0 fresh (set old i (getD fresh i 0)) ≡ merged i fresh old
+  all-renewed {m} writes =
+      rw (merged-one (λ j. eqb j i) fresh old same i (λ j. refl) (omega arith))
+      (merged-again (λ j. eqb j i) m 0 fresh old
+      ∙ merged-same (λ j. m j || eqb j i) fresh old same (reached i) (λ k h. go k (rw long at h) (decLt k entryCount) (decLt k pairsFrom) (decLt k lastFrom)))
+    where
+      past : (k : ℕ) {t : Bool} → entryCount ≤ k → m k ≡ t → (m k || eqb k i) ≡ t
+      past k h is = rw (ne-eqb k i (λ e. omega arith)) (or-false (m k) ∙ is)
+
+      go : (k : ℕ) → k < sheetCount → Dec (k < entryCount) → Dec (k < pairsFrom) → Dec (k < lastFrom) → (m k || eqb k i) ≡ reached i k
+      go k h (yes p) _ _ = rw (writes k .entries p) (sym (at-entry i k p))
+      go k h (no o) (yes p) _ = past k (omega arith) (writes k .lines (omega arith) p) ∙ sym (at-line i k (omega arith) p)
+      go k h (no o) (no n) (yes p) = past k (omega arith) (writes k .pairs (omega arith) p) ∙ sym (at-pair i k (omega arith) p)
+      go k h (no o) (no n) (no p) = past k (omega arith) (writes k .last (omega arith) h) ∙ sym (at-last i k (omega arith))
+
+-- an entry that does not reach everywhere is not the cycle
+pub not-cycle : (i : ℕ) → i < entryCount → reachOf (kindAt i) .everywhere ≡ false → i < cycleEntry
 unfolding kindAt
-quiet = each-below (λ i. everywhere (kindAt i)) (λ i. false) 80 refl
-
-cycle-is : (k : ℕ) → k < 209 → run 80 209 k ≡ reached 80 k
-unfolding kindAt reachedLine reachedPair
-cycle-is k h = go (decLt k 80) (ℕ-discrete k 80) (decLt k 193) (decLt k 201)
+not-cycle i h quiet = go (ℕ-discrete i cycleEntry)
   where
-    go : Dec (k < 80) → Dec (k ≡ 80) → Dec (k < 193) → Dec (k < 201) → run 80 209 k ≡ reached 80 k
-    go (yes p) _ _ _ = rw (before-run 80 209 k p, at-entry 80 k (omega arith), ne-eqb k 80 (λ e. omega arith))
-    go (no o) (yes p) _ _ = rw (in-run 80 209 k (omega arith) h, at-entry 80 k (omega arith), eq-eqb k 80 p)
-    go (no o) (no e) (yes p) _ = rw (in-run 80 209 k (omega arith) h, at-line 80 k (omega arith) p)
-    go (no o) (no e) (no m) (yes p) = rw (in-run 80 209 k (omega arith) h, at-pair 80 k (omega arith) p)
-    go (no o) (no e) (no m) (no p) = rw (in-run 80 209 k (omega arith) h, at-last 80 k (omega arith))
-
-in-pair : (q k : ℕ) → 193 ≤ k → run (193 + 4 * q) (193 + 4 * q + 4) k ≡ eqb ((k - 193) / 4) q
-in-pair q k h = go (decLt k (193 + 4 * q)) (decLt k (193 + 4 * q + 4))
-  where
-    go : Dec (k < 193 + 4 * q) → Dec (k < 193 + 4 * q + 4) → run (193 + 4 * q) (193 + 4 * q + 4) k ≡ eqb ((k - 193) / 4) q
-    go (yes p) _ = rw (before-run (193 + 4 * q) (193 + 4 * q + 4) k p) (sym (ne-eqb ((k - 193) / 4) q (λ e. omega arith)))
-    go (no p) (yes r) = rw (in-run (193 + 4 * q) (193 + 4 * q + 4) k (omega arith) r) (sym (eq-eqb ((k - 193) / 4) q (omega arith)))
-    go (no p) (no r) = rw (after-run (193 + 4 * q) (193 + 4 * q + 4) k (omega arith)) (sym (ne-eqb ((k - 193) / 4) q (λ e. omega arith)))
-
--- the copies of an entry that is not the cycle
-module _ (i : ℕ) where
-  -- the cells before the own lines and before those opposite, and the pair's first
-  abbrev ownAfter : ℕ
-  ownAfter = 80 + 28 * approachAt i
-
-  abbrev acrossAfter : ℕ
-  acrossAfter = 80 + 28 * opposite (approachAt i)
-
-  abbrev pairFrom : ℕ
-  pairFrom = 193 + 4 * (approachAt i / 2)
-
-  abbrev pairCells : ℕ → Bool
-  pairCells = runIf (ownPair (kindAt i)) pairFrom (pairFrom + 4)
-
-  abbrev acrossCells : ℕ → Bool
-  acrossCells = runIf (oppositeLine (kindAt i) 26) (acrossAfter + firstAcross) (acrossAfter + 27)
-
-  abbrev ownCells : ℕ → Bool
-  ownCells = linesAfter ownAfter (ownLine (kindAt i))
-
-  abbrev copied : ℕ → Bool
-  copied k = eqb k i || (run 201 209 k || pairCells k || acrossCells k || ownCells k)
-
-  module _ (hi : i < 80) (few : approachAt i < 4) (k : ℕ) where
-    at-entries : k < 81 → copied k ≡ reached i k
-    at-entries h =
-        rw (
-          before-run 201 209 k (omega arith),
-          before-if (ownPair (kindAt i)) pairFrom (pairFrom + 4) k (omega arith),
-          before-if (oppositeLine (kindAt i) 26) (acrossAfter + firstAcross) (acrossAfter + 27) k (omega arith),
-          before-lines ownAfter (ownLine (kindAt i)) k (omega arith),
-          or-false (eqb k i),
-          at-entry i k h,
-        )
-
-    at-lines : 81 ≤ k → k < 193 → copied k ≡ reached i k
-    unfolding runIf reachedLine
-    at-lines h p =
-        rw (
-          ne-eqb k i (λ e. omega arith),
-          before-run 201 209 k (omega arith),
-          before-run pairFrom (pairFrom + 4) k (omega arith),
-          and-false (ownPair (kindAt i)),
-          run-at (opposite (approachAt i)) c t k firstAcross 27 at (omega arith) (omega arith) (omega arith),
-          lines-at (approachAt i) c t k (ownLine (kindAt i)) at (omega arith),
-          at-line i k h p,
-          across-lines (kindAt i) (suc t),
-          quiet i hi,
-        )
-        (go (eqb c (approachAt i)) refl (eqb c (opposite (approachAt i))) refl)
-      where
-        c : ℕ
-        c = (k - 81) / 28
-
-        t : ℕ
-        t = (k - 81) % 28
-
-        at : k ≡ 81 + 28 * c + t
-        at = omega arith
-
-        looks : Bool
-        looks = oppositeLine (kindAt i) 26
-
-        own : Bool
-        own = ownLine (kindAt i) (suc t)
-
-        go :
-            (mine : Bool) → eqb c (approachAt i) ≡ mine → (other : Bool) → eqb c (opposite (approachAt i)) ≡ other
-            → ((looks && cond other (run firstAcross 27 (suc t)) false) || cond mine own false)
-            ≡ cond mine own (cond other (looks && (leb firstAcross (suc t) && leb (suc t) 26)) false)
-        go true m true o = absurd (street (approachAt i) few .other (sym (eqb-true c _ o) ∙ eqb-true c _ m))
-        go true m false o = rw (and-false looks)
-        go false m true o = rw (or-false (looks && run firstAcross 27 (suc t)), across-run (suc t))
-        go false m false o = rw (and-false looks)
-
-    at-pairs : 193 ≤ k → k < 201 → copied k ≡ reached i k
-    unfolding runIf reachedPair
-    at-pairs h p =
-        let cell = ownPair (kindAt i) && eqb ((k - 193) / 4) (approachAt i / 2) in
-        rw (
-          ne-eqb k i (λ e. omega arith),
-          before-run 201 209 k (omega arith),
-          in-pair (approachAt i / 2) k h,
-          after-run (acrossAfter + firstAcross) (acrossAfter + 27) k (omega (arith, street (approachAt i) few .few)),
-          and-false (oppositeLine (kindAt i) 26),
-          after-lines ownAfter (ownLine (kindAt i)) k (omega arith),
-          at-pair i k h p,
-          quiet i hi,
-          or-false cell,
-          or-false cell,
-        )
-        (and-comm (ownPair (kindAt i)) (eqb ((k - 193) / 4) (approachAt i / 2)))
-
-    copied-is : k < 209 → copied k ≡ reached i k
-    copied-is h = go (decLt k 81) (decLt k 193) (decLt k 201)
-      where
-        go : Dec (k < 81) → Dec (k < 193) → Dec (k < 201) → copied k ≡ reached i k
-        go (yes p) _ _ = at-entries p
-        go (no o) (yes p) _ = at-lines (omega arith) p
-        go (no o) (no m) (yes p) = at-pairs (omega arith) p
-        go (no o) (no m) (no p) = rw (ne-eqb k i (λ e. omega arith), in-run 201 209 k (omega arith) h, at-last i k (omega arith))
-
-module _ (fresh old : List ℕ) (same : length fresh ≡ length old) (long : length old ≡ 209) where
-  pub cycle-copied : mergedFrom (run 80 209) 0 fresh old ≡ merged 80 fresh old
-  cycle-copied = merged-same (run 80 209) fresh old same (reached 80) (λ k h. cycle-is k (rw long at h))
-
-  -- one after another
-  abbrev parts : ℕ → List ℕ
-  parts i =
-      mergedFrom (run 201 209) 0 fresh
-      (mergedFrom (pairCells i) 0 fresh (mergedFrom (acrossCells i) 0 fresh (mergedFrom (ownCells i) 0 fresh old)))
-
-  pub parts-copied : (i : ℕ) → i < 80 → approachAt i < 4 → set (parts i) i (getD fresh i 0) ≡ merged i fresh old
-  parts-copied i hi few =
-      rw (merged-again, merged-again, merged-again)
-      (merged-then-one _ fresh old same i (omega arith)
-      ∙ merged-same (copied i) fresh old same (reached i) (λ k h. copied-is i hi few k (rw long at h)))
+    go : Dec (i ≡ cycleEntry) → i < cycleEntry
+    go (yes p) = absurd (let z : _≡_ {A = Bool} true false = rw p at quiet in let n : _≡_ {A = ℕ} 0 1 = cc in omega arith)
+    go (no p) = omega arith

@@ -1,2 +1,2 @@
 pub mod Reach
-pub mod Copies
+pub mod Working

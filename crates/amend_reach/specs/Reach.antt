@@ -1,98 +1,83 @@
 -- "What an amendment reaches", over the kind of the amended entry and the cell.
-use mathlib.Core.Bool.{Bool, true, false, cond, not, _&&_, _||_}
+use mathlib.Core.Bool.{Bool, true, false, cond, _&&_, _||_}
 use mathlib.Core.List.{List, [], _∷_}
-use Prim.Native.Nat.{ℕ, suc, _+_, _-_, _*_, _/_, _%_}
-use lib.Dec.{leb, ltb, eqb}
+use Prim.Native.Nat.{ℕ, suc, _-_, _/_, _%_}
+use lib.Dec.{ltb, eqb}
+use Rattle.layout.specs.Entries.{groupCount, movementEntries, approachesFrom, approachEntries, entryCount}
+use Rattle.layout.specs.Sheet.{lineCount, linesFrom, pairCells, pairsFrom, lastFrom}
 use Rattle.kinds.specs.declared.Kind.{Kind}
-use Rattle.kinds.specs.declared.Kind.the-variants.{Lanes, Volume, IdealFlow, LostTime, MinimumGreen, SharedLane, Pedestrians, PushButton, PedestrianTime, FreeRight, Cycle}
+use Rattle.kinds.specs.declared.Kind.the-variants.{Lanes, Volume, IdealFlow, LostTime, MinimumGreen, Cycle}
+use Rattle.kinds.specs.declared.Kind.the-variants.{SharedLane, Pedestrians, PushButton, PedestrianTime, FreeRight}
 use Rattle.kinds.specs.Kinds.{kindAt}
+use Rattle.sheet_cells.specs.Cells.{opposite}
+use Rattle.amend_reach.specs.declared.Named.{Named}
+use Rattle.amend_reach.specs.declared.Named.the-variants.{All, Times, Walkers, Button, Crossing, Facing, NoLine}
+use Rattle.amend_reach.specs.declared.Reach.{Reach}
 
 abbrev pub among : ℕ → List ℕ → Bool
 among k [] = false
 among k (x ∷ xs) = eqb k x || among k xs
 
--- the lines of its own approach:
--- "lanes, volume, ideal flow, shared: own 1–28"; "lost time, minimum green: own 16, 17, 18, 26, 28";
--- "pedestrians: own 10–12, 14, 15, 17, 18, 23–28. Button: own 12, 17, 26, 28. Pedestrian time: own 17, 26, 28";
--- "free right: none more. CL: every line"
-abbrev pub ownLine : Kind → ℕ → Bool
-ownLine Lanes k = true
-ownLine Volume k = true
-ownLine IdealFlow k = true
-ownLine LostTime k = among k (16 ∷ 17 ∷ 18 ∷ 26 ∷ 28 ∷ [])
-ownLine MinimumGreen k = among k (16 ∷ 17 ∷ 18 ∷ 26 ∷ 28 ∷ [])
-ownLine SharedLane k = true
-ownLine Pedestrians k = among k (10 ∷ 11 ∷ 12 ∷ 14 ∷ 15 ∷ 17 ∷ 18 ∷ 23 ∷ 24 ∷ 25 ∷ 26 ∷ 27 ∷ 28 ∷ [])
-ownLine PushButton k = among k (12 ∷ 17 ∷ 26 ∷ 28 ∷ [])
-ownLine PedestrianTime k = among k (17 ∷ 26 ∷ 28 ∷ [])
-ownLine FreeRight k = false
-ownLine Cycle k = true
+-- the lines that the list names together
+abbrev pub names : Named → ℕ → Bool
+names All k = true
+names Times k = among k (16 ∷ 17 ∷ 18 ∷ 26 ∷ 28 ∷ [])
+names Walkers k = among k (10 ∷ 11 ∷ 12 ∷ 14 ∷ 15 ∷ 17 ∷ 18 ∷ 23 ∷ 24 ∷ 25 ∷ 26 ∷ 27 ∷ 28 ∷ [])
+names Button k = among k (12 ∷ 17 ∷ 26 ∷ 28 ∷ [])
+names Crossing k = among k (17 ∷ 26 ∷ 28 ∷ [])
+names Facing k = among k (21 ∷ 22 ∷ 23 ∷ 24 ∷ 25 ∷ 26 ∷ [])
+names NoLine k = false
 
--- the lines of the opposite approach: "lanes, volume, ideal flow, shared: .. and the opposite approach's 21–26"
-abbrev pub oppositeLine : Kind → ℕ → Bool
-oppositeLine Lanes k = leb 21 k && leb k 26
-oppositeLine Volume k = leb 21 k && leb k 26
-oppositeLine IdealFlow k = leb 21 k && leb k 26
-oppositeLine LostTime k = false
-oppositeLine MinimumGreen k = false
-oppositeLine SharedLane k = leb 21 k && leb k 26
-oppositeLine Pedestrians k = false
-oppositeLine PushButton k = false
-oppositeLine PedestrianTime k = false
-oppositeLine FreeRight k = false
-oppositeLine Cycle k = true
+-- "own 1–28 and the opposite approach's 21–26", and "all but free right also the approach's pair cells"
+abbrev pub both-ways : Reach
+both-ways = record { own = All; facing = Facing; pair = true; everywhere = false }
 
--- "all but free right also the approach's pair cells"
-abbrev pub ownPair : Kind → Bool
-ownPair Lanes = true
-ownPair Volume = true
-ownPair IdealFlow = true
-ownPair LostTime = true
-ownPair MinimumGreen = true
-ownPair SharedLane = true
-ownPair Pedestrians = true
-ownPair PushButton = true
-ownPair PedestrianTime = true
-ownPair FreeRight = false
-ownPair Cycle = true
+-- own lines, and the pair cells
+abbrev pub own : Named → Reach
+own lines = record { own = lines; facing = NoLine; pair = true; everywhere = false }
 
--- "CL: every line and pair cell": the street that crosses, too
-abbrev pub everywhere : Kind → Bool
-everywhere Lanes = false
-everywhere Volume = false
-everywhere IdealFlow = false
-everywhere LostTime = false
-everywhere MinimumGreen = false
-everywhere SharedLane = false
-everywhere Pedestrians = false
-everywhere PushButton = false
-everywhere PedestrianTime = false
-everywhere FreeRight = false
-everywhere Cycle = true
+-- "free right: none more"
+abbrev pub none-more : Reach
+none-more = record { own = NoLine; facing = NoLine; pair = false; everywhere = false }
 
--- the approach of an entry, by movements 3a to 3a+2 and by 60+5a
+-- "CL: every line and pair cell": those of the street that crosses, too
+abbrev pub every-line : Reach
+every-line = record { own = All; facing = All; pair = true; everywhere = true }
+
+-- the list: a row for each kind
+abbrev pub reachOf : Kind → Reach
+reachOf Lanes = both-ways
+reachOf Volume = both-ways
+reachOf IdealFlow = both-ways
+reachOf LostTime = own Times
+reachOf MinimumGreen = own Times
+reachOf SharedLane = both-ways
+reachOf Pedestrians = own Walkers
+reachOf PushButton = own Button
+reachOf PedestrianTime = own Crossing
+reachOf FreeRight = none-more
+reachOf Cycle = every-line
+
+-- the approach of an entry: that of its movement, or the one whose own it is
 unfoldable pub approachAt : ℕ → ℕ
-approachAt i = cond (ltb i 60) (i / 15) ((i - 60) / 5)
-
--- EB and WB, NB and SB
-unfoldable pub opposite : ℕ → ℕ
-opposite a = cond (eqb (a % 2) 0) (a + 1) (a - 1)
+approachAt i = cond (ltb i approachesFrom) (i / movementEntries / groupCount) ((i - approachesFrom) / approachEntries)
 
 -- whether a change of an entry of approach a reaches line k of approach c
-unfoldable pub reachedLine : Kind → ℕ → ℕ → ℕ → Bool
-reachedLine kind a c k =
-    everywhere kind || cond (eqb c a) (ownLine kind k) (cond (eqb c (opposite a)) (oppositeLine kind k) false)
+unfoldable pub reachedLine : Reach → ℕ → ℕ → ℕ → Bool
+reachedLine reach a c k =
+    reach .everywhere || cond (eqb c a) (names (reach .own) k) (cond (eqb c (opposite a)) (names (reach .facing) k) false)
 
 -- and the cells of pair q
-unfoldable pub reachedPair : Kind → ℕ → ℕ → Bool
-reachedPair kind a q = everywhere kind || (eqb q (a / 2) && ownPair kind)
+unfoldable pub reachedPair : Reach → ℕ → ℕ → Bool
+reachedPair reach a q = reach .everywhere || (eqb q (a / 2) && reach .pair)
 
 -- whether an amendment of entry i reaches a cell of the sheet: "besides the entry itself: always the last 8"
 unfoldable pub reached : ℕ → ℕ → Bool
 reached i cell =
-    cond (ltb cell 81) (eqb cell i)
-    (cond (ltb cell 193) (reachedLine (kindAt i) (approachAt i) ((cell - 81) / 28) (suc ((cell - 81) % 28)))
-    (cond (ltb cell 201) (reachedPair (kindAt i) (approachAt i) ((cell - 193) / 4)) true))
+    cond (ltb cell entryCount) (eqb cell i)
+    (cond (ltb cell pairsFrom)
+    (reachedLine (reachOf (kindAt i)) (approachAt i) ((cell - linesFrom) / lineCount) (suc ((cell - linesFrom) % lineCount)))
+    (cond (ltb cell lastFrom) (reachedPair (reachOf (kindAt i)) (approachAt i) ((cell - pairsFrom) / pairCells)) true))
 
 -- "reached cells hold the fresh-fill value of the amended entries; the others stay, whatever they held"
 unfoldable pub mergedFrom : (ℕ → Bool) → ℕ → List ℕ → List ℕ → List ℕ

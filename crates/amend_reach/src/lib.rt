@@ -3,63 +3,122 @@ ghost use mathlib.Core.Path.{_≡_};
 ghost use mathlib.Core.Bool.{true};
 ghost use Prim.Native.Nat.{_+_, _≤_, _<_};
 ghost use lib.ListN.{length};
-ghost use Rattle.procedure.specs.Sheet.{sheetCount};
-ghost use Rattle.amend_reach.specs.Reach.{among, ownLine, oppositeLine, ownPair, approachAt, opposite, mergedFrom, merged};
-ghost use Rattle.amend_reach.specs.Copies.{run, runIf, linesAfter, areLines};
+ghost use Rattle.layout.specs.Entries.{approachCount, cycleEntry, entryCount};
+ghost use Rattle.layout.specs.Sheet.{lineCount, sheetCount};
+ghost use Rattle.sheet_cells.specs.Cells.{opposite};
+ghost use Rattle.amend_reach.specs.Reach.{among, names, reachOf, approachAt, mergedFrom, merged};
+ghost use Rattle.amend_reach.specs.Working.{run, runIf, linesNamed, areLines, SameRow, streetCells};
 use kinds::Kind;
 
-// Whether an entry of this kind reaches the cells of its own pair.
-fn is_own_pair(kind: Kind) -> bool
-    ensures { λ r. ⌜ r ≡ ownPair kind ⌝ }
-{
-    match kind {
-        Kind::FreeRight => false, // it goes into its right total alone
-        Kind::Lanes => true,
-        Kind::Volume => true,
-        Kind::IdealFlow => true,
-        Kind::LostTime => true,
-        Kind::MinimumGreen => true,
-        Kind::SharedLane => true,
-        Kind::Pedestrians => true,
-        Kind::PushButton => true,
-        Kind::PedestrianTime => true,
-        Kind::Cycle => true,
-    }
+// Lines that the rules name together.
+pub enum Named {
+    All,
+    // of lost time and minimum green
+    Times,
+    // of pedestrians, their button and the time they take
+    Walkers,
+    Button,
+    Crossing,
+    // those that look at the approach opposite
+    Facing,
+    NoLine,
 }
 
-// Whether it reaches lines 21 to 26 of the approach opposite, which look across.
-fn is_across(kind: Kind) -> bool
-    ensures { λ r. ⌜ r ≡ oppositeLine kind 26 ⌝ }
-{
-    match kind {
-        Kind::Lanes => true,
-        Kind::Volume => true,
-        Kind::IdealFlow => true,
-        Kind::LostTime => false,
-        Kind::MinimumGreen => false,
-        Kind::SharedLane => true,
-        Kind::Pedestrians => false,
-        Kind::PushButton => false,
-        Kind::PedestrianTime => false,
-        Kind::FreeRight => false,
-        Kind::Cycle => true,
+// What an amendment of an entry reaches, besides the entry itself and the last cells.
+pub struct Reach {
+    pub own: Named,
+    // of the approach opposite
+    pub facing: Named,
+    // the cells of the approach's pair
+    pub pair: bool,
+    // every line and pair cell, of either street
+    pub everywhere: bool,
+}
+
+impl Reach {
+    const BOTH_WAYS: Reach = Reach {
+        own: Named::All,
+        facing: Named::Facing,
+        pair: true,
+        everywhere: false,
+    };
+
+    const TIMES: Reach = Reach {
+        own: Named::Times,
+        facing: Named::NoLine,
+        pair: true,
+        everywhere: false,
+    };
+
+    const WALKERS: Reach = Reach {
+        own: Named::Walkers,
+        facing: Named::NoLine,
+        pair: true,
+        everywhere: false,
+    };
+
+    const BUTTON: Reach = Reach {
+        own: Named::Button,
+        facing: Named::NoLine,
+        pair: true,
+        everywhere: false,
+    };
+
+    const CROSSING: Reach = Reach {
+        own: Named::Crossing,
+        facing: Named::NoLine,
+        pair: true,
+        everywhere: false,
+    };
+
+    const NONE_MORE: Reach = Reach {
+        own: Named::NoLine,
+        facing: Named::NoLine,
+        pair: false,
+        everywhere: false,
+    };
+
+    const EVERY_LINE: Reach = Reach {
+        own: Named::All,
+        facing: Named::All,
+        pair: true,
+        everywhere: true,
+    };
+
+    // The row of a kind.
+    fn of(kind: Kind) -> Reach
+        ensures { λ r. ⌜ SameRow r (reachOf kind) ⌝ }
+    {
+        match kind {
+            Kind::Lanes => Reach::BOTH_WAYS,
+            Kind::Volume => Reach::BOTH_WAYS,
+            Kind::IdealFlow => Reach::BOTH_WAYS,
+            Kind::LostTime => Reach::TIMES,
+            Kind::MinimumGreen => Reach::TIMES,
+            Kind::SharedLane => Reach::BOTH_WAYS,
+            Kind::Pedestrians => Reach::WALKERS,
+            Kind::PushButton => Reach::BUTTON,
+            Kind::PedestrianTime => Reach::CROSSING,
+            Kind::FreeRight => Reach::NONE_MORE, // it goes into its right total alone
+            Kind::Cycle => Reach::EVERY_LINE,
+        }
     }
 }
 
 // The approach of an entry that is not the cycle.
 fn approach_at(entry: usize) -> usize
-    requires { ⌜ entry < 80 ⌝ }
-    ensures { λ r. ⌜ (r ≡ approachAt entry) × (r < 4) ⌝ }
+    requires { ⌜ entry < cycleEntry ⌝ }
+    ensures { λ r. ⌜ (r ≡ approachAt entry) × (r < approachCount) ⌝ }
 {
-    if entry < 60 {
-        return entry / 15;
+    if entry < layout::APPROACHES_FROM {
+        return entry / layout::MOVEMENT_ENTRIES / layout::GROUPS;
     }
-    (entry - 60) / 5
+    (entry - layout::APPROACHES_FROM) / layout::APPROACH_ENTRIES
 }
 
 fn opposite_of(approach: usize) -> usize
-    requires { ⌜ approach < 4 ⌝ }
-    ensures { λ r. ⌜ (r ≡ opposite approach) × (r < 4) ⌝ }
+    requires { ⌜ approach < approachCount ⌝ }
+    ensures { λ r. ⌜ (r ≡ opposite approach) × (r < approachCount) ⌝ }
 {
     if approach % 2 == 0 {
         return approach + 1;
@@ -89,65 +148,66 @@ fn copy_if(wanted: bool, sheet: &mut [u32], fresh: &[u32], from: usize, to: usiz
     }
 }
 
-// Writes the fresh lines that a list names, of those after a cell.
-fn copy_lines(sheet: &mut [u32], fresh: &[u32], before: usize, lines: &[usize])
-    requires { ⌜ (length (now fresh) ≡ length (now sheet)) × (before + 28 < length (now sheet)) × (areLines (now lines) ≡ true) ⌝ }
-    ensures { λ _. ⌜ now (sheet .exit) ≡ mergedFrom (linesAfter before (λ k. among k (now (lines .entry)))) 0 (now (fresh .entry)) (now (sheet .entry)) ⌝ }
+// Writes the fresh lines that a list names, of those whose first stands at a cell.
+fn copy_lines(sheet: &mut [u32], fresh: &[u32], first: usize, lines: &[usize])
+    requires { ⌜ (length (now fresh) ≡ length (now sheet)) × (first + lineCount ≤ length (now sheet)) × (areLines (now lines) ≡ true) ⌝ }
+    ensures { λ _. ⌜ now (sheet .exit) ≡ mergedFrom (linesNamed first (λ k. among k (now (lines .entry)))) 0 (now (fresh .entry)) (now (sheet .entry)) ⌝ }
 {
     let mut i = 0;
     while i < lines.len() {
-        let cell = before + lines[i];
+        let cell = first + lines[i] - 1;
         sheet[cell] = fresh[cell];
         i += 1;
     }
 }
 
-// Writes the lines that an entry of this kind reaches of its own approach, whose first stands after a cell.
-fn copy_own(sheet: &mut [u32], fresh: &[u32], kind: Kind, before: usize)
-    requires { ⌜ (length (now fresh) ≡ length (now sheet)) × (before + 28 < length (now sheet)) ⌝ }
-    ensures { λ _. ⌜ now (sheet .exit) ≡ mergedFrom (linesAfter before (ownLine kind)) 0 (now (fresh .entry)) (now (sheet .entry)) ⌝ }
+// Writes the lines that are named together, of those whose first stands at a cell.
+fn copy_named(sheet: &mut [u32], fresh: &[u32], named: Named, first: usize)
+    requires { ⌜ (length (now fresh) ≡ length (now sheet)) × (first + lineCount ≤ length (now sheet)) ⌝ }
+    ensures { λ _. ⌜ now (sheet .exit) ≡ mergedFrom (linesNamed first (names named)) 0 (now (fresh .entry)) (now (sheet .entry)) ⌝ }
 {
-    match kind {
-        Kind::LostTime | Kind::MinimumGreen => copy_lines(
+    match named {
+        Named::All => copy_run(sheet, fresh, first, first + layout::LINES),
+        Named::Times => copy_lines(sheet, fresh, first, &[16, 17, 18, 26, 28]),
+        Named::Walkers => copy_lines(
             sheet,
             fresh,
-            before,
-            &[16, 17, 18, 26, 28],
-        ),
-        Kind::Pedestrians => copy_lines(
-            sheet,
-            fresh,
-            before,
+            first,
             &[10, 11, 12, 14, 15, 17, 18, 23, 24, 25, 26, 27, 28],
         ),
-        Kind::PushButton => copy_lines(sheet, fresh, before, &[12, 17, 26, 28]),
-        Kind::PedestrianTime => copy_lines(sheet, fresh, before, &[17, 26, 28]),
-        Kind::FreeRight => {}
-        Kind::Lanes | Kind::Volume | Kind::IdealFlow | Kind::SharedLane | Kind::Cycle => copy_run(
-            sheet,
-            fresh,
-            before + 1,
-            before + 29,
-        ),
+        Named::Button => copy_lines(sheet, fresh, first, &[12, 17, 26, 28]),
+        Named::Crossing => copy_lines(sheet, fresh, first, &[17, 26, 28]),
+        Named::Facing => copy_lines(sheet, fresh, first, &[21, 22, 23, 24, 25, 26]),
+        Named::NoLine => {}
     }
+}
+
+// Writes the fresh cells that an entry of an approach reaches, but for the entry itself.
+fn renew_street(sheet: &mut [u32], fresh: &[u32], reach: Reach, approach: usize)
+    requires { ⌜ (length (now sheet) ≡ sheetCount) × (length (now fresh) ≡ sheetCount) × (approach < approachCount) ⌝ }
+    ensures { λ _. ⌜ now (sheet .exit) ≡ mergedFrom (streetCells reach approach) 0 (now (fresh .entry)) (now (sheet .entry)) ⌝ }
+{
+    let own = reach.own;
+    let lines = layout::LINES_FROM + layout::LINES * approach;
+    copy_named(sheet, fresh, own, lines);
+    let facing = reach.facing;
+    let across = layout::LINES_FROM + layout::LINES * opposite_of(approach);
+    copy_named(sheet, fresh, facing, across);
+    let pair = layout::PAIRS_FROM + layout::PAIR_CELLS * (approach / 2);
+    copy_if(reach.pair, sheet, fresh, pair, pair + layout::PAIR_CELLS);
+    copy_run(sheet, fresh, layout::LAST_FROM, layout::CELLS);
 }
 
 // Writes the fresh cells that the amendment of an entry reaches; the others stay, whatever they held.
 pub fn renew(sheet: &mut [u32], fresh: &[u32], entry: usize)
-    requires { ⌜ (length (now sheet) ≡ sheetCount) × (length (now fresh) ≡ sheetCount) × (entry < 81) ⌝ }
+    requires { ⌜ (length (now sheet) ≡ sheetCount) × (length (now fresh) ≡ sheetCount) × (entry < entryCount) ⌝ }
     ensures { λ _. ⌜ now (sheet .exit) ≡ merged entry (now (fresh .entry)) (now (sheet .entry)) ⌝ }
 {
-    if entry == 80 {
-        copy_run(sheet, fresh, 80, 209); // the cycle reaches every line and pair cell
+    sheet[entry] = fresh[entry];
+    let reach = Reach::of(Kind::at(entry));
+    if reach.everywhere {
+        copy_run(sheet, fresh, layout::LINES_FROM, layout::CELLS);
         return;
     }
-    let kind = Kind::at(entry);
-    let from = approach_at(entry);
-    copy_own(sheet, fresh, kind, 80 + 28 * from);
-    let across = 80 + 28 * opposite_of(from);
-    copy_if(is_across(kind), sheet, fresh, across + 21, across + 27);
-    let pair = 193 + 4 * (from / 2);
-    copy_if(is_own_pair(kind), sheet, fresh, pair, pair + 4);
-    copy_run(sheet, fresh, 201, 209);
-    sheet[entry] = fresh[entry];
+    renew_street(sheet, fresh, reach, approach_at(entry));
 }

@@ -1,4 +1,4 @@
-use Rattle.amend_reach.specs.Copies.{runIf}
+use Rattle.amend_reach.specs.Working.{runIf}
 use Rattle.amend_reach.proofs.Merging.{merged-none}
 use mathlib.Core.Path.{refl, sym}
 use borrow.Author.Needs.{needs}

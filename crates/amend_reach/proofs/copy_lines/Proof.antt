@@ -1,6 +1,6 @@
-use Rattle.amend_reach.proofs.Copies.{linesFrom, lines-next, lines-over, next-line}
+use Rattle.amend_reach.proofs.Copies.{namedFrom, lines-next, lines-over, next-line}
 use Rattle.amend_reach.proofs.Merging.{Copying, none-copied, one-copied, all-copied}
-use Rattle.amend_reach.specs.Copies.{areLines}
+use Rattle.amend_reach.specs.Working.{areLines}
 use lib.ListN.{length, getD, drop}
 use native.Mathlib.Omega.{arith}
 use borrow.Author.Needs.{needs}
@@ -11,16 +11,20 @@ use Rattle.amend_reach.proofs.copy_lines.Statement.{statement}
 use Rattle.amend_reach.proofs.copy_lines.Tie as tie
 
 abbrev Inv-loop : tie.InvT-loop
-Inv-loop sheet₀ fresh before lines i₀ sheet i = Copying (linesFrom before lines 0) (linesFrom before lines i) fresh sheet₀ sheet × (areLines (drop i lines) ≡ true)
+Inv-loop sheet₀ fresh first lines i₀ sheet i =
+    Copying (namedFrom first lines 0) (namedFrom first lines i) fresh sheet₀ sheet × (areLines (drop i lines) ≡ true)
 
 abbrev μ-loop : tie.MeasureT-loop
-μ-loop sheet₀ fresh before lines i₀ sheet i = length lines - i
+μ-loop sheet₀ fresh first lines i₀ sheet i = length lines - i
 
 loop-holds : tie.Need-loop-holds Inv-loop μ-loop
 loop-holds c = (none-copied (c .pre .0), c .pre .2)
 
 add-cell : tie.Need-add-cell Inv-loop μ-loop
 add-cell c = omega (arith, next-line _ _ (c .before .loop-test .taken) (c .before .before .loop .inv .1))
+
+sub-cell : tie.Need-sub-cell Inv-loop μ-loop
+sub-cell c = omega (arith, next-line _ _ (c .before .loop-test .taken) (c .before .before .loop .inv .1))
 
 mul-sheet : tie.Need-mul-sheet Inv-loop μ-loop
 mul-sheet c = omega (arith, next-line _ _ (c .before .loop-test .taken) (c .before .before .loop .inv .1))
@@ -40,8 +44,8 @@ loop-again c =
     let a = c .before .before .before .before .args in
     let inside = c .before .before .loop-test .taken in
     let next = next-line (a .lines .now) (l .i) inside (l .inv .1) in (
-      one-copied (linesFrom (a .before) (a .lines .now) (l .i + 1)) (a .before + getD (a .lines .now) (l .i) 0) (omega arith)
-          (lines-next (a .before) (a .lines .now) (l .i) inside (next .least) (next .most)) (l .inv .0),
+      one-copied (namedFrom (a .first) (a .lines .now) (l .i + 1)) (a .first + getD (a .lines .now) (l .i) 0 - 1) (omega arith)
+          (lines-next (a .first) (a .lines .now) (l .i) inside (next .least) (next .most)) (l .inv .0),
       next .later,
     )
 
@@ -51,5 +55,5 @@ returns c = all-copied (lines-over _ _ _ (c .loop-test .left)) (c .before .loop 
 pub copy-lines-spec : {M : Type 1} → statement M
 copy-lines-spec =
     tie.close
-    (tie.spec Inv-loop μ-loop loop-holds (search needs) (search needs) add-cell mul-sheet shared-slice-read-sheet
+    (tie.spec Inv-loop μ-loop loop-holds (search needs) (search needs) add-cell sub-cell mul-sheet shared-slice-read-sheet
     mul-sheet-2 slice-write-sheet (search needs) (search needs) loop-again (search needs) returns)

@@ -1,6 +1,6 @@
 use Rattle.amend_reach.proofs.Copies.{run-next, run-over}
 use Rattle.amend_reach.proofs.Merging.{Copying, none-copied, one-copied, all-copied}
-use Rattle.amend_reach.specs.Copies.{run}
+use Rattle.amend_reach.specs.Working.{run}
 use native.Mathlib.Omega.{arith}
 use borrow.Author.Needs.{needs}
 use Prim.Native.Nat.{_+_, _-_}
@@ -20,7 +20,8 @@ loop-again : tie.Need-loop-again Inv-loop μ-loop
 loop-again c =
     let l = c .before .before .loop in
     let a = c .before .before .before .args in
-    one-copied (run (l .cell + 1) (a .to)) (l .cell) (omega (arith, l .inv .long, c .before .loop-test .taken)) (λ j. run-next (l .cell) (a .to) j (c .before .loop-test .taken)) (l .inv)
+    let inside = c .before .loop-test .taken in
+    one-copied (run (l .cell + 1) (a .to)) (l .cell) (omega (arith, l .inv .long, inside)) (λ j. run-next (l .cell) (a .to) j inside) (l .inv)
 
 returns : tie.Need-returns Inv-loop μ-loop
 returns c = all-copied (run-over _ _ (c .loop-test .left)) (c .before .loop .inv)

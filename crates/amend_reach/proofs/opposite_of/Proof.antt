@@ -1,4 +1,4 @@
-use Rattle.amend_reach.specs.Reach.{opposite}
+use Rattle.sheet_cells.specs.Cells.{opposite}
 use borrow.Author.Tests.{eq-eqb, ne-eqb}
 use borrow.Author.Needs.{needs}
 use Rattle.amend_reach.proofs.opposite_of.Statement.{statement}

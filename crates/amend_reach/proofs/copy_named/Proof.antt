@@ -1,0 +1,37 @@
+use mathlib.Core.Path.{sym}
+use Rattle.amend_reach.proofs.Merging.{merged-none}
+use Rattle.amend_reach.proofs.Copies.{all-lines, no-lines}
+use borrow.Author.Needs.{needs}
+use Rattle.amend_reach.proofs.copy_named.Statement.{statement}
+use Rattle.amend_reach.proofs.copy_named.Tie as tie
+
+returns : tie.Need-returns
+returns c = rw (c .before .before .before .before .enum-told .given .1, all-lines) (c .before .before .copy-run .ensures)
+
+returns-2 : tie.Need-returns-2
+returns-2 c = rw (c .before .before .before .before .before .enum-told2 .given .1) (c .before .before .copy-lines .ensures)
+
+returns-3 : tie.Need-returns-3
+returns-3 c = rw (c .before .before .before .before .before .enum-told3 .given .1) (c .before .before .copy-lines2 .ensures)
+
+returns-4 : tie.Need-returns-4
+returns-4 c = rw (c .before .before .before .before .before .enum-told4 .given .1) (c .before .before .copy-lines3 .ensures)
+
+returns-5 : tie.Need-returns-5
+returns-5 c = rw (c .before .before .before .before .before .enum-told5 .given .1) (c .before .before .copy-lines4 .ensures)
+
+returns-6 : tie.Need-returns-6
+returns-6 c = rw (c .before .before .before .before .before .enum-told6 .given .1) (c .before .before .copy-lines5 .ensures)
+
+returns-7 : tie.Need-returns-7
+returns-7 c = rw (c .enum-told7 .given .1) (sym (merged-none _ _ _ (c .before .before .before .before .pre .0) (no-lines _)))
+
+pub copy-named-spec : {M : Type 1} → statement M
+copy-named-spec =
+    tie.close
+    (tie.spec (λ c. search needs) (λ c. search needs) (λ c. search needs) (λ c. search needs) (λ c. search needs)
+    (λ c. search needs) (λ c. search needs) (λ c. search needs) (λ c. search needs) (λ c. search needs)
+    (λ c. search needs) (λ c. search needs) (λ c. search needs) (λ c. search needs) (λ c. search needs)
+    (λ c. search needs) (λ c. search needs) (λ c. search needs) (λ c. search needs) (λ c. search needs) returns
+    (λ c. search needs) returns-2 (λ c. search needs) returns-3 (λ c. search needs) returns-4 (λ c. search needs)
+    returns-5 (λ c. search needs) returns-6 returns-7)

@@ -1,0 +1,78 @@
+-- What amendments answer and leave: changes that are made together, the one change of an amendment, and a run of amendments.
+use mathlib.Core.Bool.{Bool, false, _||_}
+use mathlib.Core.List.{List, [], _∷_}
+use Prim.Native.Nat.{ℕ}
+use lib.Dec.{ltb}
+use lib.ListN.{set, take}
+use Rattle.layout.specs.Entries.{cycleEntry, entryCount}
+use Rattle.answers.specs.Answers.{_then_, refuse-if, left-by}
+use Rattle.answers.specs.declared.Refusal.the-variants.{Entry}
+use Rattle.answers.specs.declared.Answer.{Answer}
+use Rattle.answers.specs.declared.Answer.the-variants.{Accepted}
+use Rattle.entries.specs.Judging.{judged}
+use Rattle.procedure.specs.Sheet.{sheet}
+use Rattle.sheet_cells.specs.Cells.{sheetAnswer}
+use Rattle.amend_reach.specs.Reach.{reached, mergedFrom}
+
+-- a change: an entry and its new value
+pub record Change : Type 0 where
+  pub entry : ℕ
+  pub value : ℕ
+
+-- entries with changes made, in order
+unfoldable pub withChanges : List Change → List ℕ → List ℕ
+withChanges [] e = e
+withChanges (c ∷ changes) e = withChanges changes (set e (c .entry) (c .value))
+
+-- the entries of a sheet d "as they would stand"
+unfoldable pub entriesWith : List ℕ → List Change → List ℕ
+entriesWith d changes = withChanges changes (take entryCount d)
+
+-- 2 ENTRY: "amendment names an entry above 80"; place 0
+unfoldable pub entryAnswer : ℕ → Answer
+entryAnswer i = refuse-if (ltb cycleEntry i) Entry 0
+
+-- of several changes, each
+unfoldable pub entriesAnswer : List Change → Answer
+entriesAnswer [] = Accepted
+entriesAnswer (c ∷ changes) = entryAnswer (c .entry) then entriesAnswer changes
+
+-- the answer to changes made together: SIZE, ENTRY, then "3 to 5 judge all the entries as they would stand"
+unfoldable pub togetherAnswer : List ℕ → List Change → Answer
+togetherAnswer d changes = sheetAnswer d then entriesAnswer changes then judged (entriesWith d changes)
+
+-- whether some change reaches a cell
+unfoldable pub someReaches : List Change → ℕ → Bool
+someReaches [] k = false
+someReaches (c ∷ changes) k = reached (c .entry) k || someReaches changes k
+
+-- the sheet afterwards: "reached cells hold the fresh-fill value of the amended entries; the others stay, whatever they held"
+unfoldable pub amendedTogether : List ℕ → List Change → List ℕ
+amendedTogether d changes = left-by (togetherAnswer d changes) (mergedFrom (someReaches changes) 0 (sheet (entriesWith d changes)) d) d
+
+-- an amendment is one change: entry i becomes v
+abbrev pub one : ℕ → ℕ → List Change
+one i v = record { entry = i; value = v } ∷ []
+
+unfoldable pub amendAnswer : List ℕ → ℕ → ℕ → Answer
+amendAnswer d i v = togetherAnswer d (one i v)
+
+unfoldable pub amended : List ℕ → ℕ → ℕ → List ℕ
+amended d i v = amendedTogether d (one i v)
+
+-- a sheet after a run of amendments, "refused ones among them"
+unfoldable pub amendedBy : List Change → List ℕ → List ℕ
+amendedBy [] d = d
+amendedBy (c ∷ run) d = amendedBy run (amended d (c .entry) (c .value))
+
+-- entries with the accepted changes of a run made in order
+unfoldable pub entriesBy : List Change → List ℕ → List ℕ
+entriesBy [] e = e
+entriesBy (c ∷ run) e =
+    entriesBy run (left-by (entryAnswer (c .entry) then judged (set e (c .entry) (c .value))) (set e (c .entry) (c .value)) e)
+
+-- whether an accepted amendment of a run reaches a cell
+unfoldable pub reachedBy : List Change → List ℕ → ℕ → Bool
+reachedBy [] d k = false
+reachedBy (c ∷ run) d k =
+    left-by (amendAnswer d (c .entry) (c .value)) (reached (c .entry) k) false || reachedBy run (amended d (c .entry) (c .value)) k

@@ -1,0 +1,2 @@
+pub mod Street
+pub mod Cells

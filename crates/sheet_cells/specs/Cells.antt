@@ -1,0 +1,18 @@
+-- The cells of a sheet: how many there must be, and whose lines look at whose.
+use mathlib.Core.Bool.{cond, not}
+use mathlib.Core.List.{List}
+use Prim.Native.Nat.{ℕ, _+_, _-_, _%_}
+use lib.ListN.{length}
+use lib.Dec.{eqb}
+use Rattle.layout.specs.Sheet.{sheetCount}
+use Rattle.answers.specs.Answers.{refuse-if}
+use Rattle.answers.specs.declared.Refusal.the-variants.{Size}
+use Rattle.answers.specs.declared.Answer.{Answer}
+
+-- 1 SIZE: "or sheet not 209"; place 0
+unfoldable pub sheetAnswer : List ℕ → Answer
+sheetAnswer d = refuse-if (not (eqb (length d) sheetCount)) Size 0
+
+-- EB and WB, NB and SB
+unfoldable pub opposite : ℕ → ℕ
+opposite a = cond (eqb (a % 2) 0) (a + 1) (a - 1)
