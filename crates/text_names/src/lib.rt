@@ -1,19 +1,29 @@
-// The words of a junction's text, in one table: the groups of entries, then the kinds of entries.
+// The words of a junction's text, in one table: the titles, then the kinds of the entries that stand under them.
 ghost use mathlib.Core.Path.{_≡_};
+ghost use mathlib.Core.Bool.{true};
 ghost use Prim.Native.Nat.{_+_, _*_, _≤_, _<_};
 ghost use lib.ListN.{length};
 ghost use Rattle.text.specs.Text.{Placed};
-ghost use Rattle.text_names.specs.Names.{wordCount, wordWidth, wordByte, wordOf, padded, isWord, rowOf, classOf, hasKind, entryIn, groupOf, kindOf, entryFor, entryNamed};
+ghost use Rattle.layout.specs.Entries.{entryCount};
+ghost use Rattle.text_names.specs.Names.{titleCount, kindCount, wordCount, wordWidth, wordByte, wordOf, padded, isWord, rowOf};
+ghost use Rattle.text_names.specs.Names.{numberUnder, hasKind, entryIn, titleOf, kindOf, isFirst, isLast, entryFor, entryNamed};
+ghost use Rattle.text_names.specs.Working.{OfTitle, OfEntry};
 
-pub const GROUPS: u32 = 17;
+// The titles: each movement's, each approach's, the junction's.
+pub const TITLES: u32 = (layout::MOVEMENTS + layout::APPROACHES + 1) as u32;
 
-pub const WORDS: u32 = 28;
+// The junction has the cycle alone.
+const JUNCTION_ENTRIES: usize = layout::ENTRIES - layout::CYCLE_ENTRY;
+
+const KINDS: u32 = (layout::MOVEMENT_ENTRIES + layout::APPROACH_ENTRIES + JUNCTION_ENTRIES) as u32;
+
+pub const WORDS: u32 = TITLES + KINDS;
 
 pub const WIDTH: usize = 16;
 
-pub const ENTRIES: u32 = 81;
+pub const ENTRIES: u32 = layout::ENTRIES as u32;
 
-const TABLE: [u8; 448] = *b"EBL             \
+const TABLE: [u8; WIDTH * WORDS as usize] = *b"EBL             \
     EBT             \
     EBR             \
     WBL             \
@@ -110,66 +120,142 @@ pub fn row_of(word: &[u8]) -> u32
     found
 }
 
-fn class_of(group: u32) -> u32
-    ensures { λ r. ⌜ (r ≡ classOf group) × (r ≤ 2) ⌝ }
-{
-    if group < 12 {
-        return 0;
+// A class of titles: its first title, its first entry, how many entries each of its titles has, its first kind.
+pub struct Class {
+    pub title: u32,
+    pub entry: u32,
+    pub width: u32,
+    pub kind: u32,
+}
+
+impl Class {
+    pub const MOVEMENTS: Class = Class {
+        title: 0,
+        entry: 0,
+        width: layout::MOVEMENT_ENTRIES as u32,
+        kind: 0,
+    };
+
+    pub const APPROACHES: Class = Class {
+        title: layout::MOVEMENTS as u32,
+        entry: layout::APPROACHES_FROM as u32,
+        width: layout::APPROACH_ENTRIES as u32,
+        kind: layout::MOVEMENT_ENTRIES as u32,
+    };
+
+    pub const JUNCTION: Class = Class {
+        title: (layout::MOVEMENTS + layout::APPROACHES) as u32,
+        entry: layout::CYCLE_ENTRY as u32,
+        width: JUNCTION_ENTRIES as u32,
+        kind: (layout::MOVEMENT_ENTRIES + layout::APPROACH_ENTRIES) as u32,
+    };
+
+    fn of_title(title: u32) -> Class
+        ensures { λ r. ⌜ OfTitle title r ⌝ }
+    {
+        if title < Class::APPROACHES.title {
+            return Class::MOVEMENTS;
+        }
+        if title < Class::JUNCTION.title {
+            return Class::APPROACHES;
+        }
+        Class::JUNCTION
     }
-    if group < 16 {
-        return 1;
+
+    fn of_entry(entry: u32) -> Class
+        ensures { λ r. ⌜ OfEntry entry r ⌝ }
+    {
+        if entry < Class::APPROACHES.entry {
+            return Class::MOVEMENTS;
+        }
+        if entry < Class::JUNCTION.entry {
+            return Class::APPROACHES;
+        }
+        Class::JUNCTION
     }
-    2
+
+    // The number of an entry among those of its title.
+    fn number(self, entry: u32) -> u32
+        requires { ⌜ OfEntry entry self ⌝ }
+        ensures { λ r. ⌜ (r ≡ numberUnder self entry) × (r < self .width) ⌝ }
+    {
+        (entry - self.entry) % self.width
+    }
 }
 
-// Whether a group has entries of that kind.
-pub fn has_kind(group: u32, kind: u32) -> bool
-    ensures { λ r. ⌜ r ≡ hasKind group kind ⌝ }
+// Whether a title has entries of that kind.
+pub fn has_kind(title: u32, kind: u32) -> bool
+    ensures { λ r. ⌜ r ≡ hasKind title kind ⌝ }
 {
-    kind / 5 == class_of(group)
+    let class = Class::of_title(title);
+    if kind < class.kind {
+        return false;
+    }
+    kind < class.kind + class.width
 }
 
-pub fn entry_in(group: u32, kind: u32) -> u32
-    requires { ⌜ group < 17 ⌝ }
-    ensures { λ r. ⌜ (r ≡ entryIn group kind) × (r ≤ 84) ⌝ }
+// The entry of a kind that its title has.
+pub fn entry_in(title: u32, kind: u32) -> u32
+    requires { ⌜ (title < titleCount) × (kind < kindCount) × (hasKind title kind ≡ true) ⌝ }
+    ensures { λ r. ⌜ (r ≡ entryIn title kind) × (r < entryCount) ⌝ }
 {
-    5 * group + kind % 5
+    let class = Class::of_title(title);
+    class.entry + class.width * (title - class.title) + (kind - class.kind)
 }
 
-pub fn group_of(entry: u32) -> u32
-    ensures { λ r. ⌜ r ≡ groupOf entry ⌝ }
+// The title under which an entry stands.
+pub fn title_of(entry: u32) -> u32
+    ensures { λ r. ⌜ r ≡ titleOf entry ⌝ }
 {
-    entry / 5
+    let class = Class::of_entry(entry);
+    class.title + (entry - class.entry) / class.width
 }
 
 pub fn kind_of(entry: u32) -> u32
-    ensures { λ r. ⌜ (r ≡ kindOf entry) × (r ≤ 14) ⌝ }
+    ensures { λ r. ⌜ (r ≡ kindOf entry) × (r < kindCount) ⌝ }
 {
-    5 * class_of(entry / 5) + entry % 5
+    let class = Class::of_entry(entry);
+    class.kind + class.number(entry)
 }
 
-fn entry_for(group: u32, row: u32) -> u32
-    ensures { λ r. ⌜ r ≡ entryFor group row ⌝ }
+// Whether an entry is the first of its title.
+pub fn is_first(entry: u32) -> bool
+    ensures { λ r. ⌜ r ≡ isFirst entry ⌝ }
 {
-    if GROUPS <= group {
+    let class = Class::of_entry(entry);
+    class.number(entry) == 0
+}
+
+// Whether an entry is the last of its title.
+pub fn is_last(entry: u32) -> bool
+    ensures { λ r. ⌜ r ≡ isLast entry ⌝ }
+{
+    let class = Class::of_entry(entry);
+    class.number(entry) + 1 == class.width
+}
+
+fn entry_for(title: u32, row: u32) -> u32
+    ensures { λ r. ⌜ r ≡ entryFor title row ⌝ }
+{
+    if TITLES <= title {
         return ENTRIES;
     }
-    if row < GROUPS {
+    if row < TITLES {
         return ENTRIES;
     }
     if WORDS <= row {
         return ENTRIES;
     }
-    if has_kind(group, row - GROUPS) {
-        return entry_in(group, row - GROUPS);
+    if has_kind(title, row - TITLES) {
+        return entry_in(title, row - TITLES);
     }
     ENTRIES
 }
 
 // The entry that two words name, as `EBL` and `lanes`; ENTRIES if they name none.
-pub fn entry_named(group: &[u8], kind: &[u8]) -> u32
-    ensures { λ r. ⌜ r ≡ entryNamed (now (group .entry)) (now (kind .entry)) ⌝ }
+pub fn entry_named(title: &[u8], kind: &[u8]) -> u32
+    ensures { λ r. ⌜ r ≡ entryNamed (now (title .entry)) (now (kind .entry)) ⌝ }
 {
-    let named = row_of(group);
+    let named = row_of(title);
     entry_for(named, row_of(kind))
 }

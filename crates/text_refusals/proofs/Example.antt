@@ -2,29 +2,32 @@
 use mathlib.Core.Path.{_≡_, refl}
 use Rattle.answers.specs.declared.Refusal.the-variants.{Range, Shared, NoLane}
 use Rattle.answers.specs.declared.Answer.the-variants.{Refused as No}
+use Rattle.layout.specs.Entries.{buttonNo, cycleEntry, approachPlace, through, EB, NB}
 use Rattle.kinds.specs.Kinds.{kindAt}
-use Rattle.text_names.specs.Names.{wordTable, wordIn}
-use Rattle.text_reader.specs.declared.Trouble.the-variants.{NotNumber}
+use Rattle.text_names.specs.Names.{wordTable, wordIn, classAt}
+use Rattle.text_words.specs.declared.Trouble.the-variants.{NotNumber}
 use Rattle.text_reader.specs.declared.Reading.the-variants.{Misread, Refused}
 use Rattle.text.specs.Text.{ascii, joined, digits, decimal}
-use Rattle.text_refusals.specs.Says.{told, lineAt, columnAt, placeText, nameIn, rangeText, whyText, refusalText, answerText, readingText}
+use Rattle.text_phrases.specs.Phrases.{numbered, nameIn}
+use Rattle.text_places.specs.Places.{lineAt, columnAt, placeText}
+use Rattle.text_refusals.specs.Refusals.{rangeText, whyText, refusalText, answerText, readingText}
 
-range : answerText (No Range 62) ≡ ascii "R3: EB push-button is outside 0 to 1\n"
-unfolding ascii joined digits decimal told kindAt wordTable wordIn nameIn rangeText whyText refusalText
+range : answerText (No Range (approachPlace EB buttonNo)) ≡ ascii "R3: EB push-button is outside 0 to 1\n"
+unfolding ascii joined digits decimal numbered kindAt classAt wordTable wordIn nameIn rangeText whyText refusalText
 range = refl
 
-shared : answerText (No Shared 2) ≡ ascii "R4: NB: a shared lane needs a through lane and no left lane beside it\n"
-unfolding ascii joined digits decimal told wordTable wordIn nameIn whyText refusalText
+shared : answerText (No Shared NB) ≡ ascii "R4: NB: a shared lane needs a through lane and no left lane beside it\n"
+unfolding ascii joined digits decimal numbered wordTable wordIn nameIn whyText refusalText
 shared = refl
 
-noLane : answerText (No NoLane 7) ≡ ascii "R5: NBT: vehicles, and no lane that takes them\n"
-unfolding ascii joined digits decimal told wordTable wordIn nameIn whyText refusalText
+noLane : answerText (No NoLane (through NB)) ≡ ascii "R5: NBT: vehicles, and no lane that takes them\n"
+unfolding ascii joined digits decimal numbered wordTable wordIn nameIn whyText refusalText
 noLane = refl
 
 misread : readingText (ascii "EBL lanes 2\nvolume x") (Misread NotNumber 19) ≡ ascii "line 2, column 8: a whole number is expected here\n"
-unfolding ascii digits decimal told lineAt columnAt placeText
+unfolding ascii digits decimal numbered lineAt columnAt placeText
 misread = refl
 
-refused : readingText (ascii "junction cycle 29") (Refused Range 80 15) ≡ ascii "line 1, column 16: R3: junction cycle is outside 30 to 240\n"
-unfolding ascii joined digits decimal told lineAt columnAt placeText kindAt wordTable wordIn nameIn rangeText whyText refusalText
+refused : readingText (ascii "junction cycle 29") (Refused Range cycleEntry 15) ≡ ascii "line 1, column 16: R3: junction cycle is outside 30 to 240\n"
+unfolding ascii joined digits decimal numbered lineAt columnAt placeText kindAt classAt wordTable wordIn nameIn rangeText whyText refusalText
 refused = refl

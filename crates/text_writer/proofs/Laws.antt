@@ -1,27 +1,18 @@
 -- Laws of the text of entries: how long it is, and how it is put piece after piece.
-use Prim.Native.Nat.{ℕ, zero, suc, _+_, _*_, _%_, _<_, _≤_}
+use Prim.Native.Nat.{ℕ, zero, suc, _+_, _*_, _<_, _≤_}
 use mathlib.Core.Path.{_≡_, refl, sym}
 use mathlib.Core.Bool.{Bool, true, false, cond}
 use mathlib.Core.List.{List, [], _∷_, _++_}
 use lib.ListN.{length, getD, length-append}
-use lib.Dec.{eqb, ltb}
-use borrow.Author.Tests.{eq-eqb, ne-eqb, ltb-true}
 use native.Mathlib.Numerals.{add-one}
 use native.Mathlib.Omega.{arith}
-use Rattle.lists.proofs.Tests.{at-each}
-use Rattle.entries.specs.Layout.{entryCount}
 use Rattle.lists.proofs.Laws.{over-nothing}
 use Rattle.text.specs.Text.{numberThen, Placed}
 use Rattle.text.proofs.Laws.{length-numberThen, placed-next}
-use Rattle.text_names.specs.Names.{wordWidth, groupCount, wordCount, wordOf, groupOf, kindOf}
+use Rattle.text_names.specs.Names.{space, wordWidth, titleCount, wordOf, titleOf, kindOf, isFirst}
 use Rattle.text_names.proofs.Laws.{length-word}
-use Rattle.text_writer.specs.Writer.{space, opening, openingMost, closing, entryText, entryMost, entryTexts}
-
--- each entry's kind has its word
-pub has-word : (i : ℕ) → i < entryCount → groupCount + kindOf i < wordCount
-has-word i h =
-    ltb-true (groupCount + kindOf i) wordCount
-    (at-each (λ i. ltb (groupCount + kindOf i) wordCount) entryCount refl i h)
+use Rattle.text_writer.specs.Writer.{opening, closing, entryText, entryTexts}
+use Rattle.text_writer.specs.Working.{openingMost, entryMost}
 
 -- where a word ends that was put
 pub number-past : {list one : List ℕ} {at n : ℕ} (row : ℕ) → Placed list at (wordOf row) one n → n ≤ at + wordWidth
@@ -34,32 +25,32 @@ length-name row = omega (arith, length-append (wordOf row) (space ∷ []), lengt
 
 pub length-opening : (i : ℕ) → length (opening i) ≤ openingMost
 unfolding opening
-length-opening i = by (eqb (i % 5) 0)
+length-opening i = by (isFirst i)
   where
-    by : (b : Bool) → length (cond b (wordOf (groupOf i) ++ (space ∷ [])) []) ≤ openingMost
-    by true = length-name (groupOf i)
+    by : (b : Bool) → length (cond b (wordOf (titleOf i) ++ (space ∷ [])) []) ≤ openingMost
+    by true = length-name (titleOf i)
     by false = omega arith
 
 module _ {list : List ℕ} {at : ℕ} (i : ℕ) where
   pub opening-past : {one : List ℕ} {n : ℕ} → Placed list at (opening i) one n → n ≤ at + openingMost
   opening-past p = omega (arith, p .next, length-opening i)
 
-  pub no-opening : (i % 5 ≡ 0 → ⊥) → Placed list at (opening i) list at
+  pub no-opening : isFirst i ≡ false → Placed list at (opening i) list at
   unfolding opening
-  no-opening later = simp (ne-eqb (i % 5) 0 later) (record { is = sym (over-nothing list at); next = omega arith })
+  no-opening later = rw later (record { is = sym (over-nothing list at); next = omega arith })
 
-  pub opening-put : {one two : List ℕ} {n m : ℕ} → i % 5 ≡ 0 → at + openingMost ≤ length list
-      → Placed list at (wordOf (groupOf i)) one n → Placed one n (space ∷ []) two m
+  pub opening-put : {one two : List ℕ} {n m : ℕ} → isFirst i ≡ true → at + openingMost ≤ length list
+      → Placed list at (wordOf (titleOf i)) one n → Placed one n (space ∷ []) two m
       → Placed list at (opening i) two m
   unfolding opening
-  opening-put first room p q = simp (eq-eqb (i % 5) 0 first) (placed-next p q (omega (arith, length-word (groupOf i))))
+  opening-put first room p q = rw first (placed-next p q (omega (arith, length-word (titleOf i))))
 
 -- an entry
 
 pub length-entryText : (i value : ℕ) → length (entryText i value) ≤ entryMost
 unfolding entryText
 length-entryText i value =
-    let word = wordOf (groupCount + kindOf i) in
+    let word = wordOf (titleCount + kindOf i) in
     let number = numberThen value (closing i) in
     omega (
       arith,
@@ -67,23 +58,23 @@ length-entryText i value =
       length-append (opening i ++ word) (space ∷ []),
       length-append (opening i) word,
       length-opening i,
-      length-word (groupCount + kindOf i),
+      length-word (titleCount + kindOf i),
       length-numberThen value (closing i),
     )
 
 pub entry-put : {list one two three four : List ℕ} {at n m p q : ℕ} (i value : ℕ) → at + entryMost ≤ length list
     → Placed list at (opening i) one n
-    → Placed one n (wordOf (groupCount + kindOf i)) two m
+    → Placed one n (wordOf (titleCount + kindOf i)) two m
     → Placed two m (space ∷ []) three p
     → Placed three p (numberThen value (closing i)) four q
     → Placed list at (entryText i value) four q
 unfolding entryText
 entry-put i value room opened named spaced told =
-    let word = wordOf (groupCount + kindOf i) in
+    let word = wordOf (titleCount + kindOf i) in
     let l = length-append (opening i) word in
     let k = length-append (opening i ++ word) (space ∷ []) in
     let a = length-opening i in
-    let b = length-word (groupCount + kindOf i) in
+    let b = length-word (titleCount + kindOf i) in
     let d = length-numberThen value (closing i) in
     placed-next (placed-next (placed-next opened named (omega arith)) spaced (omega arith)) told (omega arith)
 

@@ -1,4 +1,4 @@
--- `names::is_word`. The loop's invariant: whether the bytes passed agree.
+-- `text_names::is_word`. The loop's invariant: whether the bytes passed agree.
 use Rattle.text_names.proofs.Laws.{agrees-on, agrees-not}
 use borrow.Author.Tests.{le-leb, lt-leb}
 use native.Mathlib.Omega.{arith}
@@ -27,11 +27,13 @@ loop-holds c = (omega arith, refl)
 loop-again : tie.Need-loop-again Inv-loop μ-loop
 loop-again c =
     let turn = c .before .before .before .before in
-    let args = turn .before .before .before .args in (
+    let args = turn .before .before .before .args in
+    let one = c .before .before .padded .ensures in
+    let two = c .before .word-byte .ensures in (
       omega arith,
       ⊎-elim
-          (λ w. w .1 ∙ agrees-not (args .word .now) (args .row) (turn .loop .i) _ _ (c .before .before .padded .ensures) (c .before .word-byte .ensures) (w .0 .taken))
-          (λ w. w .1 ∙ agrees-on (args .word .now) (args .row) (turn .loop .i) _ _ (c .before .before .padded .ensures) (c .before .word-byte .ensures) (turn .loop .inv .1) (w .0 .left))
+          (λ w. w .1 ∙ agrees-not (args .word .now) (args .row) (turn .loop .i) _ _ one two (w .0 .taken))
+          (λ w. w .1 ∙ agrees-on (args .word .now) (args .row) (turn .loop .i) _ _ one two (turn .loop .inv .1) (w .0 .left))
           (c .if2 .came),
     )
 

@@ -1,4 +1,4 @@
--- `names::put_word`. The loop's invariant: the word of the bytes passed stands at the place.
+-- `text_names::put_word`. The loop's invariant: the word of the bytes passed stands at the place.
 use Rattle.text_names.proofs.Laws.{length-wordIn, word-none, word-blank, word-more}
 use native.Mathlib.Omega.{arith}
 use mathlib.Core.Logic.{⊎-elim}

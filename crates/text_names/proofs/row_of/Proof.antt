@@ -1,4 +1,4 @@
--- `names::row_of`. The loop's invariant: what is found among the rows passed.
+-- `text_names::row_of`. The loop's invariant: what is found among the rows passed.
 use Rattle.text_names.proofs.Laws.{found-before, found-here, found-not}
 use Rattle.text_names.specs.Names.{wordCount, foundIn}
 use borrow.Author.Needs.{needs}

@@ -1,4 +1,4 @@
--- `names::word_byte`. The table in the code is the text of the definition, byte for byte.
+-- `text_names::word_byte`. The table in the code is the text of the definition, byte for byte.
 use Rattle.text_names.specs.Names.{wordTable}
 use Rattle.text.specs.Text.{joined, ascii}
 use mathlib.Core.Path.{refl}

@@ -1,5 +1,5 @@
--- `reader::fill`. The loop's invariant: the entries passed have their usual values, the others are as they were.
-use Rattle.text_reader.specs.Reader.{usually}
+-- `text_reader::fill`. The loop's invariant: the entries passed have their usual values, the others are as they were.
+use Rattle.text_scan.specs.Scanning.{usually}
 use Rattle.lists.specs.Lists.{table}
 use Rattle.lists.proofs.Laws.{filled-more, filled-all}
 use lib.ListN.{length, drop, length-set}

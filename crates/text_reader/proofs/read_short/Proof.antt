@@ -1,4 +1,4 @@
--- `reader::read_short`. The three ways to return are the three laws of what reading comes to.
+-- `text_reader::read_short`. The three ways to return are the three laws of what reading comes to.
 use mathlib.Core.Path.{sym, _∙_}
 use Rattle.text_reader.proofs.Laws.{misread, refused, all-read}
 use borrow.Author.Needs.{needs}

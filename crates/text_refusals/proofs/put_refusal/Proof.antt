@@ -1,6 +1,6 @@
--- `says::put_refusal`. The refusal's number, and what it means.
-use Rattle.text_refusals.proofs.Laws.{length-why, placed-three}
-use Rattle.text_refusals.specs.Says.{refusalText}
+-- `text_refusals::put_refusal`. The refusal's number, and what it means.
+use Rattle.text_phrases.proofs.Laws.{placed-three}
+use Rattle.text_refusals.specs.Refusals.{refusalText}
 use Rattle.text.specs.Text.{ascii}
 use borrow.Author.Needs.{needs}
 use native.Mathlib.Omega.{arith}
@@ -13,9 +13,8 @@ returns c =
     let third = c .before .before in
     let second = third .before .before .before .before in
     let first = second .before .before .before .before .before in
-    let args = first .before .before .before .before .before .args in
-    let number = rw (first .before .number .ensures) at (first .put-told .ensures .0) in
-    placed-three number (second .put-bytes .ensures) (third .put-why .ensures) (omega (arith, length-why (args .why) (args .place)))
+    let number = rw (first .before .number .ensures) at (first .put-numbered .ensures .0) in
+    (placed-three number (second .put-bytes .ensures) (third .put-why .ensures .0) (omega arith), omega arith)
 
 pub put-refusal-spec : {M : Type 1} → statement M
 put-refusal-spec =

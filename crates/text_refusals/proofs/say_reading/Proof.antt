@@ -1,5 +1,5 @@
--- `says::say_reading`. Nothing, or the place and what is wrong there.
-use Rattle.text_refusals.proofs.Laws.{placed-nothing, placed-after, length-trouble, length-refusal}
+-- `text_refusals::say_reading`. Nothing, or the place and what is wrong there.
+use Rattle.text_phrases.proofs.Laws.{placed-nothing, placed-after}
 use borrow.Author.Needs.{needs}
 use native.Mathlib.Omega.{arith}
 use Rattle.text_refusals.proofs.say_reading.Statement.{statement}
@@ -12,13 +12,13 @@ returns-2 : tie.Need-returns-2
 returns-2 c =
     let place = c .before .before in
     let reading = place .before .before .before .reading .given in
-    rw (reading .1) (placed-after (place .put-place .ensures .0) (c .put-trouble .ensures) (omega (arith, length-trouble (reading .0 .0))))
+    rw (reading .1) (placed-after (place .put-place .ensures .0) (c .put-trouble .ensures .0) (omega arith))
 
 returns-3 : tie.Need-returns-3
 returns-3 c =
     let place = c .before .before in
     let reading = place .before .before .before .reading2 .given in
-    rw (reading .1) (placed-after (place .put-place2 .ensures .0) (c .put-refusal .ensures) (omega (arith, length-refusal (reading .0 .0) (reading .0 .1 .0))))
+    rw (reading .1) (placed-after (place .put-place2 .ensures .0) (c .put-refusal .ensures .0) (omega arith))
 
 pub say-reading-spec : {M : Type 1} → statement M
 say-reading-spec =

@@ -1,5 +1,5 @@
--- `writer::put_entry`. The opening, the entry's name, a space, and its value.
-use Rattle.text_writer.proofs.Laws.{has-word, number-past, opening-past, entry-put}
+-- `text_writer::put_entry`. The opening, the entry's name, a space, and its value.
+use Rattle.text_writer.proofs.Laws.{number-past, opening-past, entry-put}
 use Rattle.text.proofs.Laws.{number-fits}
 use native.Mathlib.Omega.{arith}
 use borrow.Author.Needs.{needs}
@@ -7,11 +7,7 @@ use Rattle.text_writer.proofs.put_entry.Statement.{statement}
 use Rattle.text_writer.proofs.put_entry.Tie as tie
 
 put-word-requires : tie.Need-put-word-requires
-put-word-requires c κs =
-    let opened = c .before .before .before in
-    let start = opened .before .before .before .before .before in
-    let row = opened .before .before .before .kind-of .ensures .0 in
-    (rw row (has-word (start .args .entry) (start .pre .0)), omega (arith, opening-past _ (opened .put-opening .ensures)))
+put-word-requires c κs = (omega arith, omega (arith, opening-past _ (c .before .before .before .put-opening .ensures)))
 
 put-byte-requires : tie.Need-put-byte-requires
 put-byte-requires c κs =

@@ -1,7 +1,7 @@
--- `writer::write`. The loop's invariant: the text of the entries passed stands at the front.
+-- `text_writer::write`. The loop's invariant: the text of the entries passed stands at the front.
 use Rattle.text_writer.proofs.Laws.{length-entryTexts, no-entries, one-entry-more}
 use Rattle.text_writer.specs.Writer.{entryTexts}
-use Rattle.entries.specs.Layout.{entryCount}
+use Rattle.layout.specs.Entries.{entryCount}
 use Rattle.text.specs.Text.{Placed}
 use lib.ListN.{length}
 use native.Mathlib.Omega.{arith}

@@ -1,0 +1,58 @@
+-- What is said, in words, where a text or a call is refused.
+use Prim.Native.Nat.{ℕ, _+_}
+use mathlib.Core.Bool.{cond}
+use mathlib.Core.List.{List, [], _++_}
+use lib.Dec.{ltb}
+use Rattle.layout.specs.Entries.{approachCount}
+use Rattle.answers.specs.Answers.{refusalNumber}
+use Rattle.answers.specs.declared.Refusal.{Refusal}
+use Rattle.answers.specs.declared.Refusal.the-variants.{Size, Entry, Range, Shared, NoLane, File}
+use Rattle.answers.specs.declared.Answer.{Answer}
+use Rattle.answers.specs.declared.Answer.the-variants.{Accepted, Refused as No}
+use Rattle.kinds.specs.Kinds.{limitsOf, kindAt}
+use Rattle.text.specs.Text.{ascii}
+use Rattle.text_names.specs.Names.{wordCount, approaches}
+use Rattle.text_phrases.specs.Phrases.{numbered, nameIn, entryName}
+use Rattle.text_places.specs.Places.{placeText}
+use Rattle.text_troubles.specs.Troubles.{troubleText}
+use Rattle.text_reader.specs.declared.Reading.{Reading}
+use Rattle.text_reader.specs.declared.Reading.the-variants.{Read, Misread, Refused}
+
+-- "EBL lanes is outside 0 to 6"
+unfoldable pub rangeText : ℕ → List ℕ
+rangeText entry =
+    entryName entry
+    ++ numbered (ascii " is outside ") (limitsOf (kindAt entry) .least)
+    ++ numbered (ascii " to ") (limitsOf (kindAt entry) .most)
+    ++ ascii "\n"
+
+-- the row of an approach's name, if there is such an approach
+abbrev pub approachRow : ℕ → ℕ
+approachRow approach = cond (ltb approach approachCount) (approaches .title + approach) wordCount
+
+-- "the study file is badly laid out at byte 4"
+unfoldable pub fileText : ℕ → List ℕ
+fileText place = numbered (ascii "the study file is badly laid out at byte ") place ++ ascii "\n"
+
+-- a row for each refusal
+unfoldable pub whyText : Refusal → ℕ → List ℕ
+whyText Size place = ascii "the number of entries or cells is wrong\n"
+whyText Entry place = ascii "there is no such entry\n"
+whyText Range place = rangeText place
+whyText Shared place = nameIn (approachRow place) ++ ascii ": a shared lane needs a through lane and no left lane beside it\n"
+whyText NoLane place = nameIn place ++ ascii ": vehicles, and no lane that takes them\n"
+whyText File place = fileText place
+
+-- "R3: EBL lanes is outside 0 to 6"
+unfoldable pub refusalText : Refusal → ℕ → List ℕ
+refusalText why place = numbered (ascii "R") (refusalNumber why) ++ ascii ": " ++ whyText why place
+
+-- what is said of an answer, and of what reading came to
+abbrev pub answerText : Answer → List ℕ
+answerText Accepted = []
+answerText (No why place) = refusalText why place
+
+abbrev pub readingText : List ℕ → Reading → List ℕ
+readingText text Read = []
+readingText text (Misread why place) = placeText text place ++ troubleText why
+readingText text (Refused why at place) = placeText text place ++ refusalText why at

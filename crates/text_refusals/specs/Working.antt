@@ -1,0 +1,11 @@
+-- How long each saying is at most: no public promise says it.
+use Prim.Native.Nat.{ℕ, _+_}
+use Rattle.text.specs.Text.{digitMost}
+
+-- the longest sentence of a refusal, a shared lane's, has 82; the rest is room for another
+abbrev pub whyMost : ℕ
+whyMost = 96
+
+-- "R", the refusal's number and ": " before it
+abbrev pub refusalMost : ℕ
+refusalMost = digitMost + 3 + whyMost

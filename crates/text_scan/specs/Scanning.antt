@@ -1,0 +1,76 @@
+-- A junction as text. Blanks part the words, `#` begins a comment that ends with its line, and an entry that is not written
+-- has its kind's usual value.
+use Prim.Native.Nat.{ℕ, zero, suc, _+_, _-_}
+use mathlib.Core.Bool.{Bool, true, false, cond, not, _||_}
+use mathlib.Core.List.{List}
+use lib.ListN.{length, getD, take, drop, replicate}
+use lib.Dec.{eqb, ltb}
+use Rattle.layout.specs.Entries.{entryCount}
+use Rattle.lists.specs.Lists.{table}
+use Rattle.kinds.specs.Kinds.{limitsOf, kindAt}
+use Rattle.text_names.specs.Names.{space, lineFeed, titleCount}
+use Rattle.text_words.specs.Words.{stands, wrong, unless, State, state, taken}
+use Rattle.text_words.specs.declared.Trouble.the-variants.{Ends}
+use Rattle.text_words.specs.declared.Reader.{Reader}
+
+abbrev pub tab : ℕ
+tab = 9
+
+abbrev pub carriageReturn : ℕ
+carriageReturn = 13
+
+-- it begins a comment
+abbrev pub hash : ℕ
+hash = 35
+
+-- space, tab, carriage return and line feed part the words
+abbrev pub isBlank : ℕ → Bool
+isBlank byte = eqb byte space || eqb byte tab || eqb byte carriageReturn || eqb byte lineFeed
+
+abbrev pub endsWord : ℕ → Bool
+endsWord byte = isBlank byte || eqb byte hash
+
+-- what is read so far, and where the word begins that is not taken yet; the next byte, if none has begun
+pub record Scan : Type 0 where
+  pub state : State
+  pub begun : ℕ
+  pub isComment : Bool
+
+-- the bytes of a text between two places
+abbrev pub part : List ℕ → ℕ → ℕ → List ℕ
+part text from to = take (to - from) (drop from text)
+
+-- the word that ends at a place, if there is one
+unfoldable pub wordTaken : List ℕ → ℕ → Scan → State
+wordTaken text n s = cond (ltb (s .begun) n) (taken (s .begun) (part text (s .begun) n) (s .state)) (s .state)
+
+unfoldable pub next : List ℕ → ℕ → Scan → Scan
+next text n s =
+    cond (s .isComment) (record { state = s .state; begun = n + 1; isComment = not (eqb (getD text n 0) lineFeed) })
+    (cond (endsWord (getD text n 0)) (record { state = wordTaken text n s; begun = n + 1; isComment = eqb (getD text n 0) hash }) s)
+
+abbrev pub usually : ℕ → ℕ
+usually i = limitsOf (kindAt i) .usual
+
+abbrev pub start : Scan
+start =
+    record {
+      state = state (stands titleCount entryCount) (table usually entryCount) (replicate entryCount 0);
+      begun = 0;
+      isComment = false;
+    }
+
+-- the first n bytes
+unfoldable pub scanned : List ℕ → ℕ → Scan
+scanned text zero = start
+scanned text (suc n) = next text n (scanned text n)
+
+-- at the end no value may be due
+unfoldable pub ended : ℕ → Reader → Reader
+ended size reader = unless (reader .found) reader (cond (ltb (reader .wanted) entryCount) (wrong Ends size reader) reader)
+
+abbrev pub lastTaken : List ℕ → State
+lastTaken text = wordTaken text (length text) (scanned text (length text))
+
+unfoldable pub parsed : List ℕ → State
+parsed text = state (ended (length text) (lastTaken text .reader)) (lastTaken text .entries) (lastTaken text .places)

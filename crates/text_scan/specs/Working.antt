@@ -1,0 +1,9 @@
+-- The code's cursor as the state of a scan: no public promise says it.
+use Prim.Native.Nat.{ℕ}
+use mathlib.Core.List.{List}
+use Rattle.text_words.specs.Words.{state}
+use Rattle.text_scan.specs.declared.Cursor.{Cursor}
+use Rattle.text_scan.specs.Scanning.{Scan}
+
+abbrev pub scan : Cursor → List ℕ → List ℕ → Scan
+scan cursor entries places = record { state = state (cursor .reader) entries places; begun = cursor .begun; isComment = cursor .quiet }

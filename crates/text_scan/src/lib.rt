@@ -1,0 +1,121 @@
+// A junction's text scanned: its words are found, and taken one after the other.
+ghost use mathlib.Core.Path.{_≡_};
+ghost use Prim.Native.Nat.{_≤_, _<_};
+ghost use lib.ListN.{length, replicate};
+ghost use Rattle.layout.specs.Entries.{entryCount};
+ghost use Rattle.lists.specs.Lists.{table};
+ghost use Rattle.text_words.specs.Words.{state};
+ghost use Rattle.text_scan.specs.Scanning.{isBlank, endsWord, wordTaken, next, usually, ended, parsed};
+ghost use Rattle.text_scan.specs.Working.{scan};
+use layout::ENTRIES;
+use text_words::Found;
+use text_words::Reader;
+use text_words::Trouble;
+
+// The reader, the place where a word begins that is not taken yet, and whether a comment goes on.
+struct Cursor {
+    reader: Reader,
+    begun: usize,
+    quiet: bool,
+}
+
+fn is_blank(byte: u8) -> bool
+    ensures { λ r. ⌜ r ≡ isBlank byte ⌝ }
+{
+    if byte == b' ' {
+        return true;
+    }
+    if byte == b'\t' {
+        return true;
+    }
+    if byte == b'\r' {
+        return true;
+    }
+    byte == b'\n'
+}
+
+fn ends_word(byte: u8) -> bool
+    ensures { λ r. ⌜ r ≡ endsWord byte ⌝ }
+{
+    if is_blank(byte) {
+        return true;
+    }
+    byte == b'#'
+}
+
+// Takes the word that ends at a place, if there is one.
+fn take_word(
+    text: &[u8],
+    n: usize,
+    cursor: Cursor,
+    entries: &mut [u32],
+    places: &mut [usize],
+) -> Reader
+    requires { ⌜ (n ≤ length (now text)) × (length (now entries) ≡ entryCount) × (length (now places) ≡ entryCount) ⌝ }
+    ensures { λ r. ⌜ state r (now (entries .exit)) (now (places .exit))
+        ≡ wordTaken (now (text .entry)) n (scan cursor (now (entries .entry)) (now (places .entry))) ⌝ }
+{
+    let begun = cursor.begun;
+    if begun < n {
+        return text_words::take(begun, &text[begun..n], cursor.reader, entries, places);
+    }
+    cursor.reader
+}
+
+// Goes past one byte.
+fn go_on(text: &[u8], n: usize, cursor: Cursor, entries: &mut [u32], places: &mut [usize]) -> Cursor
+    requires { ⌜ (n < length (now text)) × (length (now entries) ≡ entryCount) × (length (now places) ≡ entryCount) ⌝ }
+    ensures { λ r. ⌜ scan r (now (entries .exit)) (now (places .exit))
+        ≡ next (now (text .entry)) n (scan cursor (now (entries .entry)) (now (places .entry))) ⌝ }
+{
+    let byte = text[n];
+    if cursor.quiet {
+        let reader = cursor.reader;
+        return Cursor {
+            reader,
+            begun: n + 1,
+            quiet: byte != b'\n',
+        };
+    }
+    if !ends_word(byte) {
+        return cursor;
+    }
+    let reader = take_word(text, n, cursor, entries, places);
+    Cursor {
+        reader,
+        begun: n + 1,
+        quiet: byte == b'#',
+    }
+}
+
+// No value may be due at the end.
+fn end(size: usize, reader: Reader) -> Reader
+    ensures { λ r. ⌜ r ≡ ended size reader ⌝ }
+{
+    let found = reader.found;
+    let Found::Well = found else {
+        return reader;
+    };
+    if reader.wanted < ENTRIES {
+        return reader.wrong(Trouble::Ends, size);
+    }
+    reader
+}
+
+// Takes every word of a text.
+pub fn parse(text: &[u8], entries: &mut [u32], places: &mut [usize]) -> Reader
+    requires { ⌜ (now entries ≡ table usually entryCount) × (now places ≡ replicate entryCount 0) ⌝ }
+    ensures { λ r. ⌜ state r (now (entries .exit)) (now (places .exit)) ≡ parsed (now (text .entry)) ⌝ }
+{
+    let mut cursor = Cursor {
+        reader: Reader::stands(text_names::TITLES, ENTRIES),
+        begun: 0,
+        quiet: false,
+    };
+    let mut n: usize = 0;
+    while n < text.len() {
+        cursor = go_on(text, n, cursor, entries, places);
+        n += 1;
+    }
+    end(n, take_word(text, n, cursor, entries, places))
+}

@@ -1,0 +1,258 @@
+-- What is written is read back: the text of any entries is read as those entries. Each word of the table is found in its own
+-- row, each entry's text sets that entry, and so do the texts of all the entries, one after the other.
+use Prim.Native.Nat.{ℕ, zero, suc, _+_, _^_, _<_, _≤_}
+use mathlib.Core.Path.{_≡_, refl, sym, _∙_}
+use mathlib.Core.Bool.{Bool, true, false, cond, not, _&&_, _||_}
+use mathlib.Core.List.{List, [], _∷_, _++_, append-assoc}
+use lib.ListN.{length, getD, drop, set, replicate}
+use lib.Seq.{getD-set-other, take-length, ext-getD}
+use lib.Dec.{eqb, ltb}
+use borrow.Author.Tests.{eqb-true, ne-eqb, not-true, ltb-true, le-ltb}
+use native.Mathlib.Nat.{add-zero, zero-add}
+use native.Mathlib.Numerals.{add-one}
+use native.Mathlib.Omega.{arith}
+use Rattle.layout.specs.Entries.{entryCount}
+use Rattle.lists.specs.Lists.{AllBelow, table}
+use Rattle.lists.proofs.Laws.{length-table, table-at, filled-more, filled-all}
+use Rattle.lists.proofs.Tests.{holds-below, both-true, at-each}
+use Rattle.answers.specs.declared.Answer.the-variants.{Accepted}
+use Rattle.entries.specs.Judging.{judged}
+use Rattle.text.specs.Text.{ascii, joined, digit, decimal, numberThen}
+use Rattle.text.proofs.Laws.{decimal-digits}
+use Rattle.text_numbers.specs.Numbers.{notNumber}
+use Rattle.text_numbers.proofs.Laws.{decimal-some, number-read}
+use Rattle.text_names.specs.Names.{space, lineFeed, titleCount, wordCount, wordTable, wordIn, wordOf, agrees, isWord, foundIn, rowOf, junction}
+use Rattle.text_names.specs.Names.{classAt, titleOf, kindOf, isFirst, isLast}
+use Rattle.text_names.proofs.Laws.{in-place}
+use Rattle.text_words.specs.Words.{stands, State, state}
+use Rattle.text_words.proofs.Laws.{title-named, kind-named, value-set}
+use Rattle.text_scan.specs.Scanning.{tab, carriageReturn, hash, endsWord, wordTaken, scanned, start, usually, ended, parsed}
+use Rattle.text_reader.specs.Reader.{textMost, shortReading, reading, keptUnlessRead}
+use Rattle.text_reader.specs.declared.Reading.the-variants.{Read}
+use Rattle.text_writer.specs.Writer.{opening, closing, entryText, entryTexts, junctionText}
+use Rattle.text_writer.proofs.Laws.{length-entryTexts}
+use Rattle.text_theorems.proofs.Reading.{Has, has-first, has-second, Reads, reads-both, Word, Blank, reads-word}
+
+-- each word of the table stands in a row of its own, and is one word of a text
+
+abbrev goesOn : List ℕ → ℕ → Bool
+goesOn word i = not (endsWord (getD word i 0))
+
+abbrev isOneWord : List ℕ → Bool
+isOneWord word = ltb 0 (length word) && holds-below (goesOn word) (length word)
+
+isFound : ℕ → Bool
+isFound row = eqb (rowOf (wordOf row)) row && isOneWord (wordOf row)
+
+each-found : holds-below isFound wordCount ≡ true
+unfolding isFound wordTable ascii joined wordIn agrees isWord foundIn
+each-found = refl
+
+record InTable (row : ℕ) : Type 0 where
+  is : rowOf (wordOf row) ≡ row
+  word : Word (wordOf row)
+
+in-table : (row : ℕ) → row < wordCount → InTable row
+unfolding isFound
+in-table row h =
+    let word = wordOf row in
+    let found = both-true (eqb (rowOf word) row) (isOneWord word) (at-each isFound wordCount each-found row h) in
+    let one = both-true (ltb 0 (length word)) (holds-below (goesOn word) (length word)) (found .1) in
+    record {
+      is = eqb-true (rowOf word) row (found .0);
+      word = record {
+        some = ltb-true 0 (length word) (one .0);
+        plain = λ i l. not-true (endsWord (getD word i 0)) (at-each (goesOn word) (length word) (one .1) i l);
+      };
+    }
+
+-- a number is one word of a text
+
+plain-digit : (byte : ℕ) → digit 0 ≤ byte → byte < digit 10 → endsWord byte ≡ false
+plain-digit byte low high =
+    simp (
+      ne-eqb byte space (λ e. omega arith),
+      ne-eqb byte tab (λ e. omega arith),
+      ne-eqb byte carriageReturn (λ e. omega arith),
+      ne-eqb byte lineFeed (λ e. omega arith),
+      ne-eqb byte hash (λ e. omega arith),
+    )
+
+decimal-word : (number : ℕ) → number < notNumber → Word (decimal number)
+decimal-word number fits =
+    record {
+      some = decimal-some number fits;
+      plain = λ i h.
+          let digit = decimal-digits number i h in
+          plain-digit (getD (decimal number) i 0) (digit .0) (digit .1);
+    }
+
+-- and a space or a new line ends it
+
+space-blank : Blank space
+space-blank = record { ends = refl; quiet = refl }
+
+closing-blank : (i : ℕ) → Blank (closing i)
+closing-blank i = by (isLast i)
+  where
+    by : (b : Bool) → Blank (cond b lineFeed space)
+    by true = record { ends = refl; quiet = refl }
+    by false = space-blank
+
+-- an entry's text sets that entry, from a state under its title, or under any if the text names the title
+
+abbrev named : ℕ → List ℕ
+named i = opening i ++ (wordOf (titleCount + kindOf i) ++ (space ∷ []))
+
+module _ (text : List ℕ) (at i title : ℕ) (entries places : List ℕ)
+    (h : i < entryCount) (same : isFirst i ≡ false → title ≡ titleOf i) where
+  abbrev before : State
+  before = state (stands title entryCount) entries places
+
+  abbrev titled : State
+  titled = state (stands (titleOf i) entryCount) entries places
+
+  reads-opening : Has text at (opening i) → Reads text at (opening i) before titled
+  unfolding opening
+  reads-opening = by (isFirst i) refl
+    where
+      by : (b : Bool) → isFirst i ≡ b → Has text at (cond b (wordOf (titleOf i) ++ (space ∷ [])) [])
+          → Reads text at (cond b (wordOf (titleOf i) ++ (space ∷ [])) []) before titled
+      by true e has =
+          let word = wordOf (titleOf i) in
+          let there = in-place i h .title in
+          let row = in-table (titleOf i) (omega (arith, there)) in
+          rw (title-named at word title entries places (titleOf i) (row .is) there) at
+          (reads-word text at word space before has (row .word) space-blank)
+      by false e has = λ r. rw (add-zero at, ← same e) r
+
+  reads-named : getD places i 0 ≡ 0 → Has text at (named i)
+      → Reads text at (named i) before (state (stands (titleOf i) i) entries places)
+  reads-named none has =
+      let word = wordOf (titleCount + kindOf i) in
+      let name = word ++ (space ∷ []) in
+      let past = at + length (opening i) in
+      let under = in-place i h in
+      let there : titleCount + kindOf i < wordCount = omega (arith, under .kind) in
+      let row = in-table (titleCount + kindOf i) there in
+      let takes = kind-named past word (titleOf i) entries places (kindOf i) i (row .is) there (under .title) in
+      let is = takes (under .has) (under .entry) none in
+      let second = has-second text at (opening i) name has in
+      reads-both text at (opening i) name (reads-opening (has-first text at (opening i) name has))
+      (rw is at (reads-word text past word space titled second (row .word) space-blank))
+
+  reads-entry : (value : ℕ) → value < notNumber → getD places i 0 ≡ 0 → Has text at (entryText i value)
+      → Reads text at (entryText i value) before
+      (state (stands (titleOf i) entryCount) (set entries i value) (set places i (at + length (named i) + 1)))
+  unfolding entryText numberThen
+  reads-entry value fits none whole =
+      let word = wordOf (titleCount + kindOf i) in
+      let number = decimal value ++ (closing i ∷ []) in
+      let past = at + length (named i) in
+      let has = rw (append-assoc (opening i) word (space ∷ [])) at whole in
+      let is = value-set past (decimal value) (titleOf i) entries places i value (number-read value fits) fits h in
+      let due = state (stands (titleOf i) i) entries places in
+      let second = has-second text at (named i) number has in
+      rw (append-assoc (opening i) word (space ∷ []))
+      (reads-both text at (named i) number (reads-named none (has-first text at (named i) number has))
+      (rw is at (reads-word text past (decimal value) (closing i) due second (decimal-word value fits) (closing-blank i))))
+
+-- the title that was named last, past the first n entries, is that of the next unless the next is its title's first
+
+abbrev titleAfter : ℕ → ℕ
+titleAfter zero = titleCount
+titleAfter (suc n) = titleOf n
+
+goesUnder : ℕ → Bool
+goesUnder n = isFirst n || eqb (titleAfter n) (titleOf n)
+
+all-go : holds-below goesUnder entryCount ≡ true
+unfolding goesUnder classAt
+all-go = refl
+
+same-title : (n : ℕ) → n < entryCount → isFirst n ≡ false → titleAfter n ≡ titleOf n
+unfolding goesUnder
+same-title n h later = eqb-true _ _ (rw later at (at-each goesUnder entryCount all-go n h))
+
+-- past the first n entries they are set and the others are not
+
+abbrev valueIn : List ℕ → ℕ → ℕ
+valueIn e i = getD e i 0
+
+record Reached (e text : List ℕ) (n : ℕ) : Type 0 where
+  places : List ℕ
+  reads : Reads text 0 (entryTexts e n) (start .state)
+      (state (stands (titleAfter n) entryCount) (table (valueIn e) n ++ drop n (table usually entryCount)) places)
+  none : (i : ℕ) → n ≤ i → getD places i 0 ≡ 0
+
+zeros : (n i : ℕ) → _≡_ {A = ℕ} (getD (replicate n 0) i 0) 0
+zeros zero i = refl
+zeros (suc n) zero = refl
+zeros (suc n) (suc i) = zeros n i
+
+module _ (e text : List ℕ) (fits : AllBelow notNumber e) where
+  one-more : (n : ℕ) → n < entryCount → Has text (0 + length (entryTexts e n)) (entryText n (valueIn e n))
+      → Reached e text n → Reached e text (suc n)
+  unfolding entryTexts
+  one-more n h has r =
+      let at = 0 + length (entryTexts e n) in
+      let value = valueIn e n in
+      let usual = table usually entryCount in
+      let entries = table (valueIn e) n ++ drop n usual in
+      let set-one = rw (add-one n) at (filled-more (valueIn e) usual n (rw (length-table usually entryCount) h)) in
+      let unread = r .none n (omega arith) in
+      let entry = reads-entry text at n (titleAfter n) entries (r .places) h (same-title n h) value (fits n) unread has in
+      record {
+        places = set (r .places) n _;
+        reads = reads-both text 0 (entryTexts e n) (entryText n value) (r .reads) (rw set-one at entry);
+        none = λ i l. getD-set-other (r .places) n i _ 0 (λ q. omega arith) ∙ r .none i (omega arith);
+      }
+
+  reached : (n : ℕ) → n ≤ entryCount → Has text 0 (entryTexts e n) → Reached e text n
+  unfolding entryTexts table
+  reached zero h has =
+      record {
+        places = replicate entryCount 0;
+        reads = λ r. r;
+        none = λ i l. zeros entryCount i;
+      }
+  reached (suc n) h has =
+      let entry = entryText n (valueIn e n) in
+      one-more n (omega arith) (has-second text 0 (entryTexts e n) entry has)
+      (reached n (omega arith) (has-first text 0 (entryTexts e n) entry has))
+
+-- as many numbers of 32 bits as there are entries, written and read
+
+module _ (e : List ℕ) (size : length e ≡ entryCount) (fits : AllBelow (2 ^ 32) e) where
+  all-reached : Reached e (junctionText e) entryCount
+  all-reached = reached e (junctionText e) fits entryCount (omega arith) (take-length (junctionText e))
+
+  all-set : table (valueIn e) entryCount ++ drop entryCount (table usually entryCount) ≡ e
+  all-set =
+      let value = valueIn e in
+      let l = length-table value entryCount in
+      rw (length-table usually entryCount) at (filled-all value (table usually entryCount))
+      ∙ ext-getD 0 (table value entryCount) e (l ∙ sym size) (λ i h. table-at value entryCount i (omega arith))
+
+  parsed-back : parsed (junctionText e) ≡ state (stands (junction .title) entryCount) e (all-reached .places)
+  unfolding parsed ended wordTaken scanned classAt
+  parsed-back =
+      let end = length (junctionText e) in
+      rw (rw (zero-add, all-set) at (all-reached .reads refl), le-ltb end end (omega arith))
+
+  -- what is read is what was written
+  pub entries-back : parsed (junctionText e) .entries ≡ e
+  entries-back = rw parsed-back
+
+  -- nothing is wrong with the text: at its end the reader stands under the last title, and waits for no value
+  pub reads-well : parsed (junctionText e) .reader ≡ stands (junction .title) entryCount
+  reads-well = rw parsed-back
+
+  -- so the text of acceptable entries is read, and leaves them
+  pub read-back : judged e ≡ Accepted → reading (junctionText e) ≡ Read
+  unfolding reading shortReading
+  read-back good = rw (le-ltb textMost (length (junctionText e)) (omega (arith, length-entryTexts e entryCount)), parsed-back, good)
+
+  pub left-back : (old : List ℕ) → judged e ≡ Accepted
+      → keptUnlessRead (reading (junctionText e)) (parsed (junctionText e) .entries) old ≡ e
+  left-back old good = rw (read-back good, entries-back)

@@ -1,0 +1,35 @@
+// What is said, in words, of what is wrong with a text.
+ghost use Prim.Native.Nat.{_+_, _≤_};
+ghost use lib.ListN.{length};
+ghost use Rattle.text.specs.Text.{Placed};
+ghost use Rattle.text_troubles.specs.Troubles.{troubleText};
+ghost use Rattle.text_troubles.specs.Working.{troubleMost};
+use text_words::Trouble;
+
+// A sentence for each trouble.
+pub fn put_trouble(out: &mut [u8], at: usize, why: Trouble) -> usize
+    requires { ⌜ at + troubleMost ≤ length (now out) ⌝ }
+    ensures { λ r. ⌜ Placed (now (out .entry)) at (troubleText why) (now (out .exit)) r × (r ≤ at + troubleMost) ⌝ }
+{
+    match why {
+        Trouble::Unknown => text::put_bytes(
+            out,
+            at,
+            b"no movement, approach or entry has this name\n",
+        ),
+        Trouble::NoTitle => text::put_bytes(
+            out,
+            at,
+            b"name a movement, an approach or the junction before its entries\n",
+        ),
+        Trouble::NotOfTitle => text::put_bytes(
+            out,
+            at,
+            b"what was named before has no such entry\n",
+        ),
+        Trouble::Twice => text::put_bytes(out, at, b"this entry was written before\n"),
+        Trouble::NotNumber => text::put_bytes(out, at, b"a whole number is expected here\n"),
+        Trouble::Ends => text::put_bytes(out, at, b"the text ends where a number is expected\n"),
+        Trouble::TooLong => text::put_bytes(out, at, b"a text has at most 65535 bytes\n"),
+    }
+}
