@@ -88,6 +88,13 @@ merged-again m p k (x ∷ fresh) (y ∷ old) = rw (merged-again m p (suc k) fres
     twice true = refl
     twice false = refl
 
+-- so four copies, one after another
+pub in-turn :
+    (fresh old : List ℕ) (m n p q : ℕ → Bool) {first second third fourth : List ℕ} → first ≡ mergedFrom m 0 fresh old
+    → second ≡ mergedFrom n 0 fresh first → third ≡ mergedFrom p 0 fresh second → fourth ≡ mergedFrom q 0 fresh third
+    → fourth ≡ mergedFrom (λ k. q k || p k || n k || m k) 0 fresh old
+in-turn fresh old m n p q a b c d = rw (d, c, b, a, merged-again, merged-again, merged-again)
+
 -- of the cells that p names, those that q names are still old
 pub record Copying (p q : ℕ → Bool) (fresh old cells : List ℕ) : Type 0 where
   pub same : length fresh ≡ length cells

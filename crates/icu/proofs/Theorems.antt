@@ -3,46 +3,50 @@
 -- What a call answers and leaves is an equation with a definition, at the call itself (src/lib.rt). So these theorems, which
 -- speak of the definitions alone, hold of what the calls do.
 use mathlib.Core.Path.{_≡_, refl, sym, _∙_}
-use mathlib.Core.Bool.{false}
+use mathlib.Core.Bool.{false, cond}
 use mathlib.Core.List.{List}
 use Prim.Native.Nat.{ℕ, _<_, _≤_, _^_}
 use lib.ListN.{length, getD, set, take}
 use native.Mathlib.Nat.{zero-add}
-use Rattle.answers.specs.Answers.{left-by}
+use Rattle.answers.specs.Answers.{_then_, left-by}
 use Rattle.answers.specs.declared.Refusal.{Refusal}
 use Rattle.answers.specs.declared.Answer.{Answer}
 use Rattle.answers.specs.declared.Answer.the-variants.{Accepted, Refused}
 use Rattle.answers.proofs.Laws.{kept, renewed}
-use Rattle.entries.specs.Layout.{entryCount}
+use Rattle.layout.specs.Entries.{approachCount, entryCount}
+use Rattle.layout.specs.Sheet.{BLANK, sheetCount}
 use Rattle.entries.specs.Judging.{judged}
 use Rattle.procedure.specs.declared.Approach.{Approach}
-use Rattle.procedure.specs.Lines.{BLANK}
 use Rattle.procedure.specs.Ranges.{Fair, FairCycle}
 use Rattle.procedure.specs.Sheet.{sheet}
 use Rattle.procedure.specs.Junctions.{workedOut, given}
 use Rattle.procedure.proofs.Compared.{compared}
-use Rattle.lines.proofs.NoBlank.{Refused as BlankMeans, blank-refuses}
+use Rattle.line_bounds.proofs.Permitted.{Refused as BlankMeans, lines-refused}
+use Rattle.sheet_cells.specs.Cells.{sheetAnswer}
 use Rattle.sheet.specs.Fill.{fillAnswer, filled}
 use Rattle.sheet.proofs.Fits.{sheet-fits}
 use Rattle.sheet.proofs.PairBlank.{PairBlank, pair-blank}
-use Rattle.amend.specs.Amend.{amendAnswer, amended, Change, amendedBy, entriesBy, reachedBy}
-use Rattle.amend.proofs.Laws.{amended-is-fresh, refused-stays, run-is-fresh, run-keeps}
+use Rattle.amend_sets.specs.Amend.{Change, withChanges, entriesWith, entryAnswer, togetherAnswer, someReaches, amendedTogether}
+use Rattle.amend_sets.specs.Amend.{amendAnswer, amended, amendedBy, entriesBy, reachedBy}
+use Rattle.amend_reach.specs.Reach.{merged}
+use Rattle.amend_sets.proofs.Together.{all-stays, all-cells, all-fresh, one-answer, one-amended, amended-is-fresh, refused-stays}
+use Rattle.amend_sets.proofs.Runs.{run-is-fresh, run-keeps}
 use Rattle.lists.specs.Lists.{AllBelow, over}
 use Rattle.study.specs.Study.{judgement, countOf, siteEntriesAnswer, siteEntries, writeAnswer, fileOf, fileBytes, sitesIn, entriesUpTo}
 use Rattle.study_listing.specs.Listing.{listing, listAnswer}
 use Rattle.text.specs.Text.{Placed}
-use Rattle.text_reader.specs.Reader.{parsed, reading, keptUnlessRead}
+use Rattle.text_scan.specs.Scanning.{parsed}
+use Rattle.text_reader.specs.Reader.{reading, keptUnlessRead}
 use Rattle.text_reader.specs.declared.Reading.{Reading}
 use Rattle.text_reader.specs.declared.Reading.the-variants.{Read, Misread, Refused as NotAccepted}
 use Rattle.text_writer.specs.Writer.{junctionText}
 use Rattle.page.specs.Worksheet.{sheetText, changeText}
 use Rattle.page_form.proofs.Places.{OnPage, on-page}
-use Rattle.text_refusals.specs.Says.{answerText, readingText}
+use Rattle.text_refusals.specs.Refusals.{answerText, readingText}
 use Rattle.icu.specs.declared.IcuAnswer.{IcuAnswer}
 use Rattle.icu.specs.Told.{told}
-use Rattle.study.proofs.RoundTrip as round
-use Rattle.study.proofs.LongFile as long
-use Rattle.text_writer.proofs.RoundTrip as texts
+use Rattle.study_theorems.proofs.Study as studies
+use Rattle.text_theorems.proofs.RoundTrip as texts
 
 -- DEMAND 1. Every call finishes and asks nothing of its caller: the check proves that of every function, and no call of the
 -- crate icu has a `requires`. A refusal comes exactly when the table says: the answers are `fillAnswer`, `amendAnswer`,
@@ -64,11 +68,11 @@ unfolding filled
 filled-sheet e d accepted = sym (renewed (sheet e) d accepted)
 
 -- On acceptable entries no time reaches BLANK: lines 23 to 26 are BLANK only where the options are not allowed ..
-pub blank-only-where-refused : (s o : Approach) (CL : ℕ) → Fair s → Fair o → FairCycle CL → BlankMeans s o CL
-blank-only-where-refused = blank-refuses
+pub blank-only-where-refused : (s o : Approach) (CL : ℕ) → Fair s → FairCycle CL → BlankMeans s o CL
+blank-only-where-refused s o CL fair cycle = lines-refused s CL fair cycle o
 
 -- .. the totals of a pair only where it is shared or a line 26 is BLANK, the split total never ..
-pub blank-totals : (e : List ℕ) → judged e ≡ Accepted → (a o : ℕ) → a < 4 → o < 4 → PairBlank e a o
+pub blank-totals : (e : List ℕ) → judged e ≡ Accepted → (a o : ℕ) → a < approachCount → o < approachCount → PairBlank e a o
 blank-totals = pair-blank
 
 -- .. and every cell of the sheet fits 32 bits.
@@ -82,21 +86,44 @@ junctions = compared
 -- A study file written and read back gives the same sites ..
 pub written-and-read :
     (entries area : List ℕ) → AllBelow (2 ^ 32) entries → writeAnswer entries (length area) ≡ Accepted
-    → round.ReadBack entries (take (fileBytes (sitesIn entries)) (over area 0 (fileOf entries)))
-written-and-read = round.written-read
+    → studies.ReadBack entries (take (fileBytes (sitesIn entries)) (over area 0 (fileOf entries)))
+written-and-read = studies.written-read
 
 -- .. and a good one read and written gives the same bytes.
 pub read-and-written : (file : List ℕ) → AllBelow 256 file → judgement file ≡ Accepted → fileOf (entriesUpTo file (countOf file)) ≡ file
-read-and-written = round.read-written
+read-and-written = studies.read-written
 
--- A file longer than any good one is judged by its first 59,049 bytes.
-pub long-file : (file : List ℕ) → 59_049 ≤ length file → judgement (take 59_049 file) ≡ judgement file
-long-file = long.first-bytes-decide
+-- A file longer than any good one is judged by its first bytes, one more than the longest good one has: 59,049.
+pub long-file : (file : List ℕ) → studies.decisive ≤ length file → judgement (take studies.decisive file) ≡ judgement file
+long-file = studies.first-bytes-decide
 
 -- DEMAND 3. An accepted amendment of one entry, on a sheet filled from acceptable entries, gives exactly the fresh fill of the
 -- amended entries.
 pub amendment : (e : List ℕ) → judged e ≡ Accepted → (i v : ℕ) → amendAnswer (sheet e) i v ≡ Accepted → amended (sheet e) i v ≡ sheet (set e i v)
 amendment = amended-is-fresh
+
+-- So does an accepted set of changes, judged together as all would stand: the amendment of one entry is its case of one.
+pub changes-together :
+    (e : List ℕ) → judged e ≡ Accepted → (changes : List Change) → togetherAnswer (sheet e) changes ≡ Accepted
+    → amendedTogether (sheet e) changes ≡ sheet (withChanges changes e)
+changes-together e ok changes = all-fresh e ok changes
+
+-- On any sheet at all, every cell that some change reaches holds the fresh fill, and every other stays; refused, all stay.
+pub changes-on-any-sheet :
+    (d : List ℕ) (changes : List Change) → togetherAnswer d changes ≡ Accepted → (k : ℕ) → k < length d
+    → getD (amendedTogether d changes) k 0 ≡ cond (someReaches changes k) (getD (sheet (entriesWith d changes)) k 0) (getD d k 0)
+changes-on-any-sheet = all-cells
+
+pub refused-changes :
+    {why : Refusal} {place : ℕ} (d : List ℕ) (changes : List Change) → togetherAnswer d changes ≡ Refused why place → amendedTogether d changes ≡ d
+refused-changes = all-stays
+
+-- The case of one, as the rules have it: SIZE, ENTRY, then the entries as they would stand; what the entry reaches is renewed.
+pub answer-of-one : (d : List ℕ) (i v : ℕ) → amendAnswer d i v ≡ (sheetAnswer d then entryAnswer i then judged (set (take entryCount d) i v))
+answer-of-one = one-answer
+
+pub sheet-of-one : (d : List ℕ) (i v : ℕ) → amended d i v ≡ left-by (amendAnswer d i v) (merged i (sheet (set (take entryCount d) i v)) d) d
+sheet-of-one = one-amended
 
 -- Over any run, refused ones among them, it is the fresh fill of the starting entries with the accepted changes made in order.
 pub run-of-amendments : (run : List Change) (e : List ℕ) → judged e ≡ Accepted → amendedBy run (sheet e) ≡ sheet (entriesBy run e)
@@ -122,7 +149,7 @@ pub left-as-text :
 left-as-text = texts.left-back
 
 -- Every cell of a sheet stands on the printed page, in the row and the column that a list of changes tells of it.
-pub on-the-page : (cell : ℕ) → cell < 209 → OnPage cell
+pub on-the-page : (cell : ℕ) → cell < sheetCount → OnPage cell
 on-the-page = on-page
 
 -- A text that is not read alters nothing.

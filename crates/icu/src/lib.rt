@@ -4,7 +4,7 @@ ghost use lib.ListN.{length};
 ghost use Rattle.answers.specs.Answers.{left-by};
 ghost use Rattle.lists.specs.Lists.{over};
 ghost use Rattle.sheet.specs.Fill.{fillAnswer, filled};
-ghost use Rattle.amend.specs.Amend.{amendAnswer, amended};
+ghost use Rattle.amend_sets.specs.Amend.{amendAnswer, amended};
 ghost use Rattle.study.specs.Study.{judgement, countOf, siteEntriesAnswer, siteEntries, writeAnswer, fileOf};
 ghost use Rattle.study_listing.specs.Listing.{listing, listAnswer};
 ghost use Rattle.icu.specs.Told.{told};

@@ -23,7 +23,12 @@ pub fn time_for(volume: Vph, cycle: Cycle, flow: Flow) -> Ms
     requires { ⌜ (volume .0 ≤ mostVolume) × (cycle .0 ≤ mostOf CycleKind) × (flowUnit * volume .0 ≤ mostMixedServed * flow .0) × (flow .0 ≤ mostMixed) ⌝ }
     ensures { λ r. ⌜ r .0 ≡ time (volume .0) (cycle .0) (flow .0) ⌝ }
 {
-    Ms(units::divide_up(THOUSAND * (volume.0 as u64) * (cycle.0 as u64), flow.0 as u64) as u32)
+    Ms(
+        units::divide_up(
+            THOUSAND * (volume.0 as u64) * (cycle.0 as u64),
+            flow.0 as u64,
+        ) as u32,
+    )
 }
 
 // The time of a part of an approach, with what holds it up; a part without volume takes none.

@@ -88,7 +88,14 @@ pub fn flow_a(flow: Flow, share: u32, equivalent: u32, lanes: Lanes) -> Flow
 }
 
 // Lines 19–22.
-pub fn left_lane_of(s: Approach, o: Approach, v: Volumes, f: Flows, m: Meeting, cycle: Cycle) -> LeftLane
+pub fn left_lane_of(
+    s: Approach,
+    o: Approach,
+    v: Volumes,
+    f: Flows,
+    m: Meeting,
+    cycle: Cycle,
+) -> LeftLane
     requires { ⌜ Fair s × (v ≡ volumesOf s) × (f ≡ flowsOf s) × (m ≡ meetingOf s o) × FairCycle (cycle .0) ⌝ }
     ensures { λ r. ⌜ r ≡ leftLaneOf s o (cycle .0) ⌝ }
 {

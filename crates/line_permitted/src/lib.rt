@@ -42,10 +42,7 @@ fn option_a_of(lane: Vph, mixed: Flow, volume: Vph, flow: Flow, held: Ms, cycle:
     if volume.0 as u64 * mixed.0 as u64 <= lane.0 as u64 * flow.0 as u64 {
         return delayed;
     }
-    line_formulas::larger(
-        delayed,
-        line_formulas::time_for(volume, cycle, flow),
-    )
+    line_formulas::larger(delayed, line_formulas::time_for(volume, cycle, flow))
 }
 
 // The L value of line 23: every car of the lane turns left.
@@ -174,7 +171,14 @@ fn weigh_if_allowed(s: Approach, frequency: u32, reference: Ms) -> Ms
 }
 
 // Lines 23–26.
-pub fn permitted_of(s: Approach, o: Approach, x: First, m: Meeting, lane: LeftLane, cycle: Cycle) -> Permitted
+pub fn permitted_of(
+    s: Approach,
+    o: Approach,
+    x: First,
+    m: Meeting,
+    lane: LeftLane,
+    cycle: Cycle,
+) -> Permitted
     requires { ⌜ Fair s × (x ≡ firstOf s (cycle .0)) × (m ≡ meetingOf s o) × (lane ≡ leftLaneOf s o (cycle .0)) × FairCycle (cycle .0) ⌝ }
     ensures { λ r. ⌜ r ≡ permittedOf s o (cycle .0) ⌝ }
 {

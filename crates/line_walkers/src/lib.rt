@@ -62,11 +62,7 @@ fn through_interference(s: Approach, v: Volumes, cycle: Cycle) -> Ms
     if s.right.volume.0.0 == 0 {
         return Ms(0);
     }
-    share(
-        walkers_part(s.walkers, cycle),
-        s.right.volume.0,
-        v.through,
-    )
+    share(walkers_part(s.walkers, cycle), s.right.volume.0, v.through)
 }
 
 // Line 12: how often there are walkers in a cycle, in ten-thousandths.

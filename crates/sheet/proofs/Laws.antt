@@ -1,16 +1,10 @@
 -- What the filling leans on: a street's times are small, and the parts make the whole sheet.
 use mathlib.Core.Path.{_≡_, refl}
-use mathlib.Core.Bool.{not}
 use mathlib.Core.List.{List, _++_, append-assoc}
 use Prim.Native.Nat.{ℕ, _+_, _<_}
-use lib.ListN.{length}
 use lib.Dec.{eqb, lit<}
-use borrow.Author.Tests.{eqb-true, not-false}
-use Rattle.answers.specs.declared.Refusal.the-variants.{Size}
 use Rattle.answers.specs.declared.Answer.the-variants.{Accepted}
-use Rattle.answers.proofs.Laws.{not-refused}
 use Rattle.layout.specs.Entries.{approachCount, EB, WB, NB, SB}
-use Rattle.layout.specs.Sheet.{lastCells, sheetCount}
 use Rattle.entries.specs.Layout.{cycle}
 use Rattle.entries.specs.Judging.{judged}
 use Rattle.procedure.specs.Approach.{readApproach}
@@ -24,7 +18,6 @@ use Rattle.sheet_pairs.specs.declared.Pair.{Pair}
 use Rattle.sheet_street.specs.declared.Street.{Street}
 use Rattle.sheet_street.specs.Street.{StreetOf}
 use Rattle.sheet_street.proofs.Laws.{Small, small}
-use Rattle.sheet.specs.Fill.{sheetAnswer}
 use Rattle.sheet.specs.Working.{StreetAt, SmallPair}
 
 -- a street of the entries' approaches
@@ -64,10 +57,6 @@ pub last-assembled :
 unfolding lastAt
 last-assembled e p q r s t u = rw (p, q, r, s, t, u)
 
-pub last-long : (e : List ℕ) → length (lastAt e) ≡ lastCells
-unfolding lastAt lastOf
-last-long e = refl
-
 pub sheet-assembled :
     (e : List ℕ) {eb wb nb sb ew ns last : List ℕ}
     → eb ≡ linesAt e EB WB → wb ≡ linesAt e WB EB → nb ≡ linesAt e NB SB → sb ≡ linesAt e SB NB
@@ -75,8 +64,3 @@ pub sheet-assembled :
     → e ++ (eb ++ wb) ++ (nb ++ sb) ++ (ew ++ ns ++ last) ≡ sheet e
 unfolding sheet
 sheet-assembled e p q r s t u l = rw (p, q, r, s, t, u, l) (simp append-assoc)
-
--- SIZE is not answered only of a sheet of as many numbers as it should have
-pub sheet-accepted : (d : List ℕ) → sheetAnswer d ≡ Accepted → length d ≡ sheetCount
-unfolding sheetAnswer
-sheet-accepted d h = eqb-true (length d) sheetCount (not-false _ (not-refused (not (eqb (length d) sheetCount)) Size 0 h))

@@ -1,19 +1,11 @@
 -- What `fill` answers and leaves: demand 2's first half.
-use mathlib.Core.Bool.{not}
 use mathlib.Core.List.{List}
 use Prim.Native.Nat.{ℕ}
-use lib.ListN.{length}
-use lib.Dec.{eqb}
-use Rattle.answers.specs.Answers.{_then_, refuse-if, left-by}
-use Rattle.answers.specs.declared.Refusal.the-variants.{Size}
+use Rattle.answers.specs.Answers.{_then_, left-by}
 use Rattle.answers.specs.declared.Answer.{Answer}
 use Rattle.entries.specs.Judging.{judged}
-use Rattle.layout.specs.Sheet.{sheetCount}
+use Rattle.sheet_cells.specs.Cells.{sheetAnswer}
 use Rattle.procedure.specs.Sheet.{sheet}
-
--- 1 SIZE: "or sheet not 209"
-unfoldable pub sheetAnswer : List ℕ → Answer
-sheetAnswer d = refuse-if (not (eqb (length d) sheetCount)) Size 0
 
 -- the answer to filling the sheet d from the entries e
 unfoldable pub fillAnswer : List ℕ → List ℕ → Answer

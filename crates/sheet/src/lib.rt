@@ -15,9 +15,8 @@ ghost use Rattle.line_bounds.specs.Bounds.{mostPicked};
 ghost use Rattle.line_stages.specs.Cells.{cellsOf};
 ghost use Rattle.sheet_pairs.specs.Cells.{pairCells};
 ghost use Rattle.sheet.specs.Working.{StreetAt, RightsAt, SmallPair};
-ghost use Rattle.sheet.specs.Fill.{sheetAnswer, fillAnswer, filled};
+ghost use Rattle.sheet.specs.Fill.{fillAnswer, filled};
 use answers::Answer;
-use answers::Refusal;
 use kinds::FreeRight;
 use line_stages::Lines;
 use sheet_pairs::Pair;
@@ -134,21 +133,12 @@ pub fn write_fresh(entries: &[u32], sheet: &mut [u32])
     put_rest(sheet, along.pair, across.pair, last);
 }
 
-pub fn check_sheet(sheet: &[u32]) -> Answer
-    ensures { λ r. ⌜ r ≡ sheetAnswer (now (sheet .entry)) ⌝ }
-{
-    if sheet.len() != layout::CELLS {
-        return Answer::Refused(Refusal::Size, 0);
-    }
-    Answer::Accepted
-}
-
 // Fills the sheet from the entries; where either is refused, the sheet stays as it was.
 pub fn fill(entries: &[u32], sheet: &mut [u32]) -> Answer
     ensures { λ r. ⌜ r ≡ fillAnswer (now (entries .entry)) (now (sheet .entry)) ⌝ }
     ensures { λ r. ⌜ now (sheet .exit) ≡ filled (now (entries .entry)) (now (sheet .entry)) ⌝ }
 {
-    let size = check_sheet(sheet);
+    let size = sheet_cells::check_sheet(sheet);
     let Answer::Accepted = size else {
         return size;
     };

@@ -57,7 +57,14 @@ fn right_total(free: FreeRight, lines: Lines, cross: Ms, left: Ms) -> Ms
 }
 
 // The right total of an approach, from its own pair and the pair that crosses it.
-pub fn right_of(free: FreeRight, lines: Lines, oncoming: Lines, pair: Pair, cross: Lines, crosspair: Pair) -> Ms
+pub fn right_of(
+    free: FreeRight,
+    lines: Lines,
+    oncoming: Lines,
+    pair: Pair,
+    cross: Lines,
+    crosspair: Pair,
+) -> Ms
     requires { ⌜ (line 18 (cellsOf lines) ≤ mostAdjusted) × (throughTime (pairCells crosspair) (cellsOf cross) ≤ mostPicked) × (leftTime (pairCells pair) (cellsOf oncoming) ≤ mostAdjusted) ⌝ }
     ensures { λ r. ⌜ r .0 ≡ rightTotal (eqb (free .0) 1) (cellsOf lines) (throughTime (pairCells crosspair) (cellsOf cross)) (leftTime (pairCells pair) (cellsOf oncoming)) ⌝ }
 {

@@ -15,7 +15,8 @@ use Rattle.entries.proofs.Laws.{accepted-count}
 use Rattle.procedure.specs.Sheet.{lastOf, lastAt, sheet}
 use Rattle.sheet_cells.proofs.Cells.{last-cell}
 use Rattle.sheet.proofs.Fits.{letter-most}
-use Rattle.sheet.specs.Fill.{sheetAnswer, fillAnswer, filled}
+use Rattle.sheet_cells.specs.Cells.{sheetAnswer}
+use Rattle.sheet.specs.Fill.{fillAnswer, filled}
 use Rattle.study.specs.Study.{siteAnswer, siteEntriesAnswer, siteEntries}
 use Rattle.study_lines.specs.Working.{letterMost, Lettered}
 use Rattle.study_listing.specs.Listing.{shown, siteOf}

@@ -1,5 +1,5 @@
 use Rattle.amend_reach.specs.Working.{streetCells}
-use Rattle.amend_reach.proofs.Merging.{merged-again}
+use Rattle.amend_reach.proofs.Merging.{in-turn}
 use borrow.Author.Needs.{needs}
 use Rattle.amend_reach.proofs.renew_street.Statement.{statement}
 use Rattle.amend_reach.proofs.renew_street.Tie as tie
@@ -11,16 +11,8 @@ returns c =
     let pair = last .before .before .before .before in
     let facing = pair .before .before .before .before in
     let own = facing .before .before .before .before .before in
-    rw (
-      last .copy-run .ensures,
-      pair .copy-if .ensures,
-      facing .copy-named2 .ensures,
-      facing .before .before .opposite-of .ensures .0,
-      own .copy-named .ensures,
-      merged-again,
-      merged-again,
-      merged-again,
-    )
+    let across = facing .before .before .opposite-of .ensures .0 in
+    in-turn _ _ _ _ _ _ (own .copy-named .ensures) (rw across at (facing .copy-named2 .ensures)) (pair .copy-if .ensures) (last .copy-run .ensures)
 
 pub renew-street-spec : {M : Type 1} → statement M
 renew-street-spec =

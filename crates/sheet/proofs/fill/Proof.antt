@@ -1,4 +1,4 @@
-use Rattle.sheet.proofs.Laws.{sheet-accepted}
+use Rattle.sheet_cells.proofs.Cells.{sheet-accepted}
 use Rattle.sheet.specs.Fill.{fillAnswer, filled}
 use Rattle.procedure.specs.Sheet.{sheet}
 use Rattle.answers.proofs.Laws.{handed-on, passed, kept, renewed}

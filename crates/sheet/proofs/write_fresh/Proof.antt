@@ -5,7 +5,8 @@ use Rattle.layout.specs.Sheet.{lastCells}
 use Rattle.line_stages.specs.Cells.{cellsOf}
 use Rattle.lists.proofs.Laws.{over-then, over-whole}
 use Rattle.sheet_pairs.specs.Cells.{pairCells}
-use Rattle.sheet.proofs.Laws.{last-long, sheet-assembled}
+use Rattle.sheet_cells.proofs.Cells.{last-length}
+use Rattle.sheet.proofs.Laws.{sheet-assembled}
 use denote.Ref.{now}
 use lib.Dec.{lit<}
 use lib.ListN.{length, length-append}
@@ -50,7 +51,7 @@ returns c =
     let across = cellsOf (y .one) ++ cellsOf (y .other) in
     let cells = pairCells (x .pair) ++ pairCells (y .pair) ++ last .last-at .result in
     let long : length e ≡ entryCount = accepted-count e (s .pre .0) in
-    let short : length (last .last-at .result) ≡ lastCells = ap length (last .last-at .ensures) ∙ last-long e in
+    let short : length (last .last-at .result) ≡ lastCells = ap length (last .last-at .ensures) ∙ last-length e in
     let pairs = pairCells (x .pair) ++ pairCells (y .pair) in
     let size : length d ≡ length (e ++ along ++ across ++ cells) =
     omega (arith, s .pre .1, length-append (e ++ along ++ across) cells, length-append (e ++ along) across, length-append e along, length-append pairs (last .last-at .result)) in
