@@ -4,9 +4,6 @@ use libc::STDERR_FILENO;
 use libc::STDOUT_FILENO;
 use program_files::Input;
 
-// Room for the entries of as many sites as a study file holds.
-const ALL_ENTRIES: usize = 14_580;
-
 // What is changed: a site, one of its entries, and the entry's new value.
 struct Change {
     site: u32,
@@ -49,7 +46,7 @@ fn print_changes(before: &[u32], after: &[u32]) {
 
 // Prints what the change does to the sheet that is filled from these entries; whether it is accepted.
 fn amend_sheet(entries: &[u32], change: Change) -> bool {
-    let mut before = [0u32; sheet::COUNT];
+    let mut before = [0u32; layout::CELLS];
     let filled = sheet::fill(entries, &mut before);
     let Answer::Accepted = filled else {
         program_inputs::refuse(filled);
@@ -65,12 +62,12 @@ fn amend_sheet(entries: &[u32], change: Change) -> bool {
     true
 }
 
-fn amend_entries(entries: &[u32; 81], change: Change) -> bool {
+fn amend_entries(entries: &[u32; layout::ENTRIES], change: Change) -> bool {
     amend_sheet(entries, change)
 }
 
 fn amend_site(file: &[u8], change: Change) -> bool {
-    let mut entries = [0u32; 81];
+    let mut entries = [0u32; layout::ENTRIES];
     if !program_inputs::read_site(file, 2, &mut entries) {
         return false;
     }
@@ -88,7 +85,7 @@ fn copy_sites(file: &[u8], all: &mut [u32]) {
 }
 
 fn copy_site(file: &[u8], site: u32, all: &mut [u32]) {
-    let mut entries = [0u32; 81];
+    let mut entries = [0u32; layout::ENTRIES];
     study::site_entries(file, site, &mut entries);
     program_inputs::put_site(all, site, &entries);
 }
@@ -101,11 +98,11 @@ fn put_entry(all: &mut [u32], at: usize, value: u32) {
 
 // Writes the study with the change made to the file that the last argument names.
 fn write_changed(file: &[u8], change: Change) {
-    let mut all = [0u32; ALL_ENTRIES];
+    let mut all = [0u32; study::MOST_ENTRIES];
     copy_sites(file, &mut all);
     put_entry(
         &mut all,
-        81 * change.site as usize + change.entry as usize,
+        layout::ENTRIES * change.site as usize + change.entry as usize,
         change.value,
     );
     program_inputs::write_study(6, study::count(file), &all);
@@ -145,7 +142,7 @@ fn main() {
         tell_use();
         return;
     }
-    if 4_294_967_295 < value {
+    if text_numbers::NOT_NUMBER <= value {
         program_inputs::complain(5, b"a whole number is expected here\n");
         return;
     }

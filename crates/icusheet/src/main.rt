@@ -21,7 +21,7 @@ fn print_text(text: &[u8; page::SHEET_BYTES]) {
 
 // Prints the sheet that is filled from these entries, or tells why they are refused.
 fn print_sheet(entries: &[u32]) {
-    let mut cells = [0u32; sheet::COUNT];
+    let mut cells = [0u32; layout::CELLS];
     let answer = sheet::fill(entries, &mut cells);
     let Answer::Accepted = answer else {
         program_inputs::refuse(answer);
@@ -32,12 +32,12 @@ fn print_sheet(entries: &[u32]) {
     print_text(&text);
 }
 
-fn print_junction(entries: &[u32; 81]) {
+fn print_junction(entries: &[u32; layout::ENTRIES]) {
     print_sheet(entries);
 }
 
 fn print_site(file: &[u8]) {
-    let mut entries = [0u32; 81];
+    let mut entries = [0u32; layout::ENTRIES];
     if program_inputs::read_site(file, 2, &mut entries) {
         print_junction(&entries);
     }
@@ -48,7 +48,7 @@ fn print_from(area: &[u8; program_inputs::AREA_BYTES], size: usize) {
 }
 
 fn of_text() {
-    let mut entries = [0u32; 81];
+    let mut entries = [0u32; layout::ENTRIES];
     if program_inputs::read_junction(1, &mut entries) {
         print_junction(&entries);
     }

@@ -3,8 +3,12 @@ use libc::STDERR_FILENO;
 use libc::STDOUT_FILENO;
 use program_files::Input;
 
-// Room for the entries of as many sites as a study file holds.
-const ALL_ENTRIES: usize = 14_580;
+// The arguments: what to do, a study file, and a site or the first of the texts.
+const JOB: usize = 1;
+
+const STUDY: usize = 2;
+
+const REST: usize = 3;
 
 fn tell_use() {
     io::write_all(
@@ -17,11 +21,11 @@ fn tell_use() {
     );
 }
 
-// Reads a junction from each of the texts that are named from the fourth argument on; whether all are well.
+// Reads a junction from each of the texts that the arguments name; whether all are well.
 fn read_texts(sites: u32, all: &mut [u32]) -> bool {
     let mut site: u32 = 0;
     while site < sites {
-        if !read_text(3 + site as usize, site, all) {
+        if !read_text(REST + site as usize, site, all) {
             return false;
         }
         site += 1;
@@ -30,7 +34,7 @@ fn read_texts(sites: u32, all: &mut [u32]) -> bool {
 }
 
 fn read_text(argument: usize, site: u32, all: &mut [u32]) -> bool {
-    let mut entries = [0u32; 81];
+    let mut entries = [0u32; layout::ENTRIES];
     if !program_inputs::read_junction(argument, &mut entries) {
         return false;
     }
@@ -38,19 +42,19 @@ fn read_text(argument: usize, site: u32, all: &mut [u32]) -> bool {
     true
 }
 
-fn put_site(all: &mut [u32], site: u32, entries: &[u32; 81]) {
+fn put_site(all: &mut [u32], site: u32, entries: &[u32; layout::ENTRIES]) {
     program_inputs::put_site(all, site, entries);
 }
 
 fn make_of(sites: u32) {
-    let mut all = [0u32; ALL_ENTRIES];
+    let mut all = [0u32; study::MOST_ENTRIES];
     if read_texts(sites, &mut all) {
-        program_inputs::write_study(2, sites, &all);
+        program_inputs::write_study(STUDY, sites, &all);
     }
 }
 
 fn make(texts: usize) {
-    if 180 < texts {
+    if study::MOST_SITES < texts {
         io::write_all(STDERR_FILENO, b"a study holds at most 180 junctions\n");
         return;
     }
@@ -61,15 +65,15 @@ fn print_text(text: &[u8; text_writer::TEXT_BYTES], size: usize) {
     io::write_all(STDOUT_FILENO, program_files::front(text, size));
 }
 
-fn print_entries(entries: &[u32; 81]) {
+fn print_entries(entries: &[u32; layout::ENTRIES]) {
     let mut text = [0u8; text_writer::TEXT_BYTES];
     let size = text_writer::write(entries, &mut text);
     print_text(&text, size);
 }
 
 fn show_site(file: &[u8]) {
-    let mut entries = [0u32; 81];
-    if program_inputs::read_site(file, 3, &mut entries) {
+    let mut entries = [0u32; layout::ENTRIES];
+    if program_inputs::read_site(file, REST, &mut entries) {
         print_entries(&entries);
     }
 }
@@ -80,7 +84,7 @@ fn show_from(area: &[u8; program_inputs::AREA_BYTES], size: usize) {
 
 fn show() {
     let mut area = [0u8; program_inputs::AREA_BYTES];
-    let input = program_inputs::read_file(2, &mut area);
+    let input = program_inputs::read_file(STUDY, &mut area);
     let Input::Read(size) = input else {
         return;
     };
@@ -88,9 +92,9 @@ fn show() {
 }
 
 fn run(job: &[u8], count: usize) {
-    if 4 <= count && check::same(job, b"make") {
-        make(count - 3);
-    } else if count == 4 && check::same(job, b"show") {
+    if REST < count && check::same(job, b"make") {
+        make(count - REST);
+    } else if count == REST + 1 && check::same(job, b"show") {
         show();
     } else {
         tell_use();
@@ -99,6 +103,6 @@ fn run(job: &[u8], count: usize) {
 
 fn main() {
     let mut job = io::buffer();
-    let size = os::arg(1, &mut job);
+    let size = os::arg(JOB, &mut job);
     run(&job[..size], os::arg_count());
 }

@@ -1,1 +1,1 @@
-pub mod Desk
+pub mod Inputs

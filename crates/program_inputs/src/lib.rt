@@ -2,8 +2,7 @@
 // reads or writes, no promise can say; the texts in between are proved calls'.
 ghost use mathlib.Core.Path.{_≡_};
 ghost use lib.ListN.{take};
-ghost use Rattle.study.specs.Study.{fileBytes};
-ghost use Rattle.program_inputs.specs.Desk.{siteOf, withSite};
+ghost use Rattle.program_inputs.specs.Inputs.{siteOf, withSite};
 use answers::Answer;
 use libc::STDERR_FILENO;
 use program_files::Input;
@@ -11,6 +10,9 @@ use text_reader::Reading;
 
 // One byte more than a text has at most, so that a longer one is seen to be too long; no study file is longer.
 pub const AREA_BYTES: usize = text_reader::TEXT_MOST + 1;
+
+// Past any site of a study: the largest number of 32 bits.
+const NO_SITE: u32 = (text_numbers::NOT_NUMBER - 1) as u32;
 
 // Writes an argument, a colon and what is to say of it.
 pub fn complain(argument: usize, what: &[u8]) {
@@ -44,7 +46,7 @@ pub fn read_file(argument: usize, area: &mut [u8; AREA_BYTES]) -> Input {
     input
 }
 
-fn read_text(argument: usize, text: &[u8], entries: &mut [u32; 81]) -> bool {
+fn read_text(argument: usize, text: &[u8], entries: &mut [u32; layout::ENTRIES]) -> bool {
     let reading = text_reader::read(text, entries);
     let Reading::Read = reading else {
         let mut said = [0u8; text_refusals::SAYING_BYTES];
@@ -60,13 +62,13 @@ fn read_area(
     argument: usize,
     area: &[u8; AREA_BYTES],
     size: usize,
-    entries: &mut [u32; 81],
+    entries: &mut [u32; layout::ENTRIES],
 ) -> bool {
     read_text(argument, program_files::front(area, size), entries)
 }
 
 // Reads the junction whose text an argument names; whether it is well.
-pub fn read_junction(argument: usize, entries: &mut [u32; 81]) -> bool {
+pub fn read_junction(argument: usize, entries: &mut [u32; layout::ENTRIES]) -> bool {
     let mut area = [0u8; AREA_BYTES];
     let input = read_file(argument, &mut area);
     let Input::Read(size) = input else {
@@ -75,20 +77,20 @@ pub fn read_junction(argument: usize, entries: &mut [u32; 81]) -> bool {
     read_area(argument, &area, size, entries)
 }
 
-// The number that an argument spells; more than 32 bits hold, if none.
+// The number that an argument spells; text_numbers::NOT_NUMBER, if none.
 pub fn number_in(argument: usize) -> u64 {
     let mut word = io::buffer();
     let size = os::arg(argument, &mut word);
-    text_reader::number_of(&word[..size])
+    text_numbers::number_of(&word[..size])
 }
 
 // The entry that two arguments name; text_names::ENTRIES, if they name none.
 pub fn entry_in(argument: usize, after: usize) -> u32 {
-    let mut group = io::buffer();
+    let mut title = io::buffer();
     let mut kind = io::buffer();
-    let group_size = os::arg(argument, &mut group);
+    let title_size = os::arg(argument, &mut title);
     let kind_size = os::arg(after, &mut kind);
-    text_names::entry_named(&group[..group_size], &kind[..kind_size])
+    text_names::entry_named(&title[..title_size], &kind[..kind_size])
 }
 
 // A site's number from 1, as a study counts it, from 0; past any site, if there can be none.
@@ -96,10 +98,10 @@ fn site_of(number: u64) -> u32
     ensures { λ r. ⌜ r ≡ siteOf number ⌝ }
 {
     if number == 0 {
-        return 4_294_967_295;
+        return NO_SITE;
     }
-    if 4_294_967_295 < number {
-        return 4_294_967_295;
+    if text_numbers::NOT_NUMBER <= number {
+        return NO_SITE;
     }
     (number - 1) as u32
 }
@@ -110,7 +112,7 @@ pub fn site_in(argument: usize) -> u32 {
 }
 
 // Reads the entries of the site that an argument names; whether there is one.
-pub fn read_site(file: &[u8], argument: usize, entries: &mut [u32; 81]) -> bool {
+pub fn read_site(file: &[u8], argument: usize, entries: &mut [u32; layout::ENTRIES]) -> bool {
     let answer = study::check(file);
     let Answer::Accepted = answer else {
         refuse(answer);
@@ -129,7 +131,7 @@ pub fn read_site(file: &[u8], argument: usize, entries: &mut [u32; 81]) -> bool 
 pub fn put_site(all: &mut [u32], site: u32, entries: &[u32])
     ensures { λ _. ⌜ now (all .exit) ≡ withSite (now (all .entry)) site (now (entries .entry)) ⌝ }
 {
-    let at = 81 * site as usize;
+    let at = layout::ENTRIES * site as usize;
     if at < all.len() {
         if entries.len() <= all.len() - at {
             lists::put(all, at, entries);
@@ -146,22 +148,15 @@ fn write_file(argument: usize, bytes: &[u8]) {
     }
 }
 
-// How long the study file of that many sites is.
-fn file_bytes(sites: u32) -> usize
-    ensures { λ r. ⌜ r ≡ fileBytes sites ⌝ }
-{
-    8 + 328 * sites as usize
-}
-
 // Writes the study of these sites' entries to the file that an argument names.
 pub fn write_study(argument: usize, sites: u32, all: &[u32]) {
-    let mut file = [0u8; AREA_BYTES];
-    let answer = study::write(front_of(all, 81 * sites as usize), &mut file);
+    let mut file = [0u8; study::MOST_BYTES];
+    let answer = study::write(front_of(all, layout::ENTRIES * sites as usize), &mut file);
     let Answer::Accepted = answer else {
         refuse(answer);
         return;
     };
-    write_file(argument, program_files::front(&file, file_bytes(sites)));
+    write_file(argument, program_files::front(&file, study::file_bytes(sites)));
 }
 
 // The front of the entries; all of them, where they are fewer.

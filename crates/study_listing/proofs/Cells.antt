@@ -1,5 +1,5 @@
--- Laws of the cells that a line tells: the letter is one of eight, and what a filled sheet tells.
-use Prim.Native.Nat.{ℕ, _+_, _≤_}
+-- Laws of the cells that a line shows: the letter is one of eight, and what a filled sheet shows.
+use Prim.Native.Nat.{ℕ, _-_, _≤_}
 use mathlib.Core.Path.{_≡_, refl, _∙_}
 use mathlib.Core.List.{List}
 use lib.ListN.{length, getD, replicate}
@@ -8,26 +8,28 @@ use Rattle.answers.specs.Answers.{left-by}
 use Rattle.answers.specs.declared.Answer.{Answer}
 use Rattle.answers.specs.declared.Answer.the-variants.{Accepted}
 use Rattle.answers.specs.declared.Answer.the-variants.{Refused as No}
-use Rattle.entries.specs.Layout.{entryCount}
+use Rattle.layout.specs.Entries.{entryCount}
+use Rattle.layout.specs.Sheet.{lastFrom, letterCell, sheetCount}
 use Rattle.entries.specs.Judging.{judged}
 use Rattle.entries.proofs.Laws.{accepted-count}
-use Rattle.procedure.specs.Sheet.{sheetCount, lastOf, lastAt, sheet}
-use Rattle.amend_reach.proofs.Cells.{last-cell}
+use Rattle.procedure.specs.Sheet.{lastOf, lastAt, sheet}
+use Rattle.sheet_cells.proofs.Cells.{last-cell}
 use Rattle.sheet.proofs.Fits.{letter-most}
-use Rattle.sheet.specs.Fill.{sheetAnswer, fillAnswer, filled}
+use Rattle.sheet_cells.specs.Cells.{sheetAnswer}
+use Rattle.sheet.specs.Fill.{fillAnswer, filled}
 use Rattle.study.specs.Study.{siteAnswer, siteEntriesAnswer, siteEntries}
-use Rattle.study_listing.specs.Listing.{letterMost, Lettered, told, siteOf}
+use Rattle.study_lines.specs.Working.{letterMost, Lettered}
+use Rattle.study_listing.specs.Listing.{shown, siteOf}
 
--- the letter is the last of the last eight cells
-letter-cell : (e : List ℕ) → length e ≡ entryCount → getD (sheet e) 208 0 ≤ letterMost
+letter-cell : (e : List ℕ) → length e ≡ entryCount → getD (sheet e) letterCell 0 ≤ letterMost
 unfolding lastAt lastOf
-letter-cell e whole = rw (last-cell e whole 7) (letter-most _)
+letter-cell e whole = rw (last-cell e whole (letterCell - lastFrom)) (letter-most _)
 
 pub lettered : (e : List ℕ) → Lettered (siteOf e)
 unfolding siteOf
 lettered e = by (judged e) refl
   where
-    by : (answer : Answer) → judged e ≡ answer → Lettered (told answer (sheet e))
+    by : (answer : Answer) → judged e ≡ answer → Lettered (shown answer (sheet e))
     by Accepted ok = letter-cell e (accepted-count e ok)
     by (No why place) bad = tt
 
@@ -36,24 +38,24 @@ entries-there : (file : List ℕ) (site room : ℕ) (new old : List ℕ) → sit
     → left-by (siteEntriesAnswer file site room) new old ≡ new
 entries-there file site room new old there sized = simp (eq-eqb room entryCount sized, there)
 
--- filling a sheet of the right size answers as the entries are judged, and tells the site
-fill-tells : (e before : List ℕ) {answer : Answer} {after : List ℕ} → length before ≡ sheetCount
+-- filling a sheet of the right size answers as the entries are judged, and shows the site
+fill-shows : (e before : List ℕ) {answer : Answer} {after : List ℕ} → length before ≡ sheetCount
     → answer ≡ fillAnswer e before
     → after ≡ filled e before
-    → told answer after ≡ siteOf e
+    → shown answer after ≡ siteOf e
 unfolding fillAnswer filled sheetAnswer siteOf
-fill-tells e before {answer} {after} sized answers fills = by (judged e) refl
+fill-shows e before {answer} {after} sized answers fills = by (judged e) refl
   where
-    by : (judgement : Answer) → judged e ≡ judgement → told answer after ≡ told (judged e) (sheet e)
+    by : (judgement : Answer) → judged e ≡ judgement → shown answer after ≡ shown (judged e) (sheet e)
     by Accepted ok = rw (answers, fills) (simp (eq-eqb (length before) sheetCount sized, ok))
     by (No why place) bad = rw (answers, fills) (simp (eq-eqb (length before) sheetCount sized, bad))
 
--- so what the two calls leave, in areas of noughts, tells the site of the file
-pub site-tells : (file : List ℕ) (site : ℕ) (entries : List ℕ) {answer : Answer} {after : List ℕ} → siteAnswer file site ≡ Accepted
+-- so what the two calls leave, in areas of noughts, shows the site of the file
+pub site-shows : (file : List ℕ) (site : ℕ) (entries : List ℕ) {answer : Answer} {after : List ℕ} → siteAnswer file site ≡ Accepted
     → entries ≡ left-by (siteEntriesAnswer file site entryCount) (siteEntries file site) (replicate entryCount 0)
     → answer ≡ fillAnswer entries (replicate sheetCount 0)
     → after ≡ filled entries (replicate sheetCount 0)
-    → told answer after ≡ siteOf (siteEntries file site)
-site-tells file site entries there read answers fills =
+    → shown answer after ≡ siteOf (siteEntries file site)
+site-shows file site entries there read answers fills =
     let is = read ∙ entries-there file site entryCount (siteEntries file site) (replicate entryCount 0) there refl in
-    rw is at (fill-tells entries (replicate sheetCount 0) refl answers fills)
+    rw is at (fill-shows entries (replicate sheetCount 0) refl answers fills)

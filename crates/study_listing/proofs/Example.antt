@@ -1,8 +1,8 @@
--- The paper's example: the listing of K1, then K1 with entry 80 as 29.
+-- The paper's example: the listing of K1, then K1 with entry 80, the cycle, as 29. The definitions compute it.
 use mathlib.Core.Path.{_≡_, refl}
-use mathlib.Core.List.{List, [], _∷_, _++_}
-use Prim.Native.Nat.{ℕ}
+use mathlib.Core.List.{_++_}
 use lib.ListN.{set}
+use Rattle.layout.specs.Entries.{cycleEntry}
 use Rattle.units.specs.Rounding.{up}
 use Rattle.line_decay.specs.Decay.{term, turns, faded, decayNumber}
 use Rattle.line_factors.specs.Factors.{laneFactor}
@@ -23,8 +23,14 @@ use Rattle.study_numbers.specs.Numbers.{bytesOf, packed}
 use Rattle.study_format.specs.Format.{startsWith, judgement, fileOf}
 use Rattle.study.specs.Study.{icus}
 use Rattle.text.specs.Text.{ascii, digits, decimal, numberThen}
-use Rattle.study_listing.specs.Listing.{ratedLine, refusedLine, siteOf, siteLines, listing}
+use Rattle.study_lines.specs.Lines.{ratedLine, refusedLine}
+use Rattle.study_listing.specs.Listing.{siteOf, siteLines, listing}
 
-pub example : listing (fileOf icus (K1 ++ set K1 80 29)) ≡ ascii "1 666 C PP\n2 R3 80\n"
-unfolding ascii inRange kindAt up term turns faded decayNumber laneFactor movementEntry approachEntry readMovement readApproach a b volume vST turningT fT flowOf flow turningST sST sSL G interference frequency F time reference adjustedOf weightedOf weighted adjusted heaviest vLL q single leftShare equivalent E flowA sA optionAOf leftA optionA allowedA allowedB empty line23 sB throughB optionB line24 lesser line25 line26 line27 line28 firstLines laterLines lines protected permitted split picked pair throughTime leftTime rightTotal icuOf letterOf linesAt pairAt rightAt lastOf lastAt sheet inTurn sizeAnswer outside badlyShared otherLanes unserved judged bytesOf table packed startsWith judgement fileOf digits decimal numberThen ratedLine refusedLine siteOf siteLines listing
+pub example : listing (fileOf icus (K1 ++ set K1 cycleEntry 29)) ≡ ascii "1 666 C PP\n2 R3 80\n"
+unfolding ascii inRange kindAt up term turns faded decayNumber laneFactor movementEntry approachEntry readMovement readApproach a b volume
+    vST turningT fT flowOf flow turningST sST sSL G interference frequency F time reference adjustedOf weightedOf weighted adjusted heaviest
+    vLL q single leftShare equivalent E flowA sA optionAOf leftA optionA allowedA allowedB empty line23 sB throughB optionB line24 lesser
+    line25 line26 line27 line28 firstLines laterLines lines protected permitted split picked pair throughTime leftTime rightTotal icuOf
+    letterOf linesAt pairAt rightAt lastOf lastAt sheet inTurn sizeAnswer outside badlyShared otherLanes unserved judged bytesOf table
+    packed startsWith judgement fileOf digits decimal numberThen ratedLine refusedLine siteOf siteLines listing
 example = refl

@@ -1,12 +1,12 @@
--- Laws of the listing's lines: how a line is put piece after piece, and how long it is.
+-- Laws of the listing: the lines of sites, put one after the other, and how long the whole is.
 use Prim.Native.Nat.{ℕ, zero, suc, _+_, _*_, _<_, _≤_}
 use mathlib.Core.Path.{_≡_, refl, sym}
-use mathlib.Core.List.{List, [], _∷_, _++_}
+use mathlib.Core.List.{List, _++_}
 use lib.ListN.{length, take, length-append}
 use borrow.Author.Tests.{lt-leb, le-ltb}
 use native.Mathlib.Numerals.{add-one}
 use native.Mathlib.Omega.{arith}
-use Rattle.answers.specs.Answers.{refusalNumber, placeOf, left-by}
+use Rattle.answers.specs.Answers.{placeOf, left-by}
 use Rattle.answers.specs.declared.Refusal.{Refusal}
 use Rattle.answers.specs.declared.Answer.{Answer}
 use Rattle.answers.specs.declared.Answer.the-variants.{Accepted}
@@ -15,70 +15,13 @@ use Rattle.lists.proofs.Laws.{over-nothing}
 use Rattle.study_format.proofs.Laws.{accepted}
 use Rattle.study.specs.Study.{icus, siteLimit, sitesOf, siteEntries, siteAnswer, judgement}
 use Rattle.study_theorems.proofs.Study.{decisive, front-decides}
-use Rattle.text.specs.Text.{numberThen, Placed, ascii}
-use Rattle.text.proofs.Laws.{length-numberThen, placed-next}
-use Rattle.study_listing.specs.Listing.{space, lineFeed, letterByte, phasingByte, ratedLine, refusedLine, lineOf, lineMost, fileLine}
-use Rattle.study_listing.specs.Listing.{siteOf, siteLine, siteLines, listingBy, listing, areaBytes, listAnswer}
-use Rattle.study_listing.specs.declared.Rating.{Rating}
-use Rattle.study_listing.specs.declared.Site.{Site}
-use Rattle.study_listing.specs.declared.Site.the-variants.{Rated, Refused}
-
--- what a rated site's line has past the ICU
-abbrev pub ending : Rating → List ℕ
-ending r = letterByte (r .letter) ∷ space ∷ phasingByte (r .first) ∷ phasingByte (r .second) ∷ lineFeed ∷ []
-
--- how long a line is
-
-pub length-lineOf : (number : ℕ) (site : Site) → length (lineOf number site) ≤ lineMost
-unfolding ratedLine refusedLine
-length-lineOf number (Rated r) =
-    let first = numberThen number space in
-    let second = numberThen (r .icu) space in
-    omega (arith, length-append (first ++ second) (ending r), length-append first second, length-numberThen number space, length-numberThen (r .icu) space)
-length-lineOf number (Refused why place) =
-    let first = numberThen number space in
-    let second = numberThen (refusalNumber why) space in
-    let third = numberThen place lineFeed in
-    omega (
-      arith,
-      length-append (first ++ (82 ∷ []) ++ second) third,
-      length-append (first ++ (82 ∷ [])) second,
-      length-append first (82 ∷ []),
-      length-numberThen number space,
-      length-numberThen (refusalNumber why) space,
-      length-numberThen place lineFeed,
-    )
-
-pub length-fileLine : (place : ℕ) → length (fileLine place) ≤ lineMost
-unfolding fileLine ascii
-length-fileLine place = omega (arith, length-numberThen place lineFeed)
-
--- a line is put piece after piece
-
-module _ {list one two three : List ℕ} {at n m p : ℕ} (number : ℕ) (room : at + lineMost ≤ length list) (first : Placed list at (numberThen number space) one n) where
-  pub rated-placed : (r : Rating) → Placed one n (numberThen (r .icu) space) two m → Placed two m (ending r) three p
-      → Placed list at (ratedLine number r) three p
-  unfolding ratedLine
-  rated-placed r second third =
-      let l = length-append (numberThen number space) (numberThen (r .icu) space) in
-      let h = length-numberThen number space in
-      let k = length-numberThen (r .icu) space in
-      placed-next (placed-next first second (omega arith)) third (omega arith)
-
-  pub refused-placed : {four : List ℕ} {q : ℕ} (why : Refusal) (place : ℕ)
-      → Placed one n (82 ∷ []) two m
-      → Placed two m (numberThen (refusalNumber why) space) three p
-      → Placed three p (numberThen place lineFeed) four q
-      → Placed list at (refusedLine number why place) four q
-  unfolding refusedLine
-  refused-placed why place second third fourth =
-      let head = numberThen number space ++ (82 ∷ []) in
-      let l = length-append (numberThen number space) (82 ∷ []) in
-      let m = length-append head (numberThen (refusalNumber why) space) in
-      let h = length-numberThen number space in
-      let i = length-numberThen (refusalNumber why) space in
-      let k = length-numberThen place lineFeed in
-      placed-next (placed-next (placed-next first second (omega arith)) third (omega arith)) fourth (omega arith)
+use Rattle.text.specs.Text.{Placed}
+use Rattle.text.proofs.Laws.{placed-next}
+use Rattle.study_lines.specs.Lines.{fileLine}
+use Rattle.study_lines.specs.Working.{lineMost}
+use Rattle.study_lines.proofs.Laws.{length-lineOf, length-fileLine}
+use Rattle.study_listing.specs.Listing.{siteOf, siteLine, siteLines, listingBy, listing, listAnswer}
+use Rattle.study_listing.specs.Working.{areaBytes}
 
 -- the lines of the first n sites
 
@@ -130,9 +73,9 @@ length-listing file = by (judgement file) refl
 always-listed : (file : List ℕ) (room : ℕ) → areaBytes ≤ room → listAnswer file room ≡ Accepted
 always-listed file room h = simp (le-ltb room (length (listing file)) (omega (arith, length-listing file)))
 
--- and what is told of its length lies within the area
-pub told-fits : (file : List ℕ) (room old : ℕ) → areaBytes ≤ room → left-by (listAnswer file room) (length (listing file)) old ≤ room
-told-fits file room old h = simp (always-listed file room h) (omega (arith, length-listing file))
+-- and its length, as it is handed back, lies within the area
+pub listed-fits : (file : List ℕ) (room old : ℕ) → areaBytes ≤ room → left-by (listAnswer file room) (length (listing file)) old ≤ room
+listed-fits file room old h = simp (always-listed file room h) (omega (arith, length-listing file))
 
 -- the first bytes of a long input are listed as the whole is: it is a bad file, refused at the same place
 pub front-lists : (file : List ℕ) (m : ℕ) → decisive ≤ m → m ≤ length file → listing (take m file) ≡ listing file

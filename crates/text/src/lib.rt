@@ -4,6 +4,9 @@ ghost use Prim.Native.Nat.{_+_, _≤_, _<_};
 ghost use lib.ListN.{length};
 ghost use Rattle.text.specs.Text.{digit, decimal, numberThen, Placed};
 
+// The most digits of a number of 32 bits.
+pub const DIGITS_MOST: usize = 10;
+
 pub fn put_byte(out: &mut [u8], at: usize, byte: u8) -> usize
     requires { ⌜ at < length (now out) ⌝ }
     ensures { λ r. ⌜ Placed (now (out .entry)) at (byte ∷ []) (now (out .exit)) r ⌝ }

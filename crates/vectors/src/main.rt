@@ -1,8 +1,15 @@
-// Fills each junction of standard input, 81 little-endian numbers each, and prints the cells that were worked out.
+// Fills each junction of standard input, a block of a study file each, and prints the cells that were worked out.
 use answers::Answer;
 use libc::STDOUT_FILENO;
 
-const BLOCK: usize = 324;
+// Where the rows begin that follow another of the same kind.
+const WB_FROM: usize = layout::LINES_FROM + layout::LINES;
+
+const NB_FROM: usize = WB_FROM + layout::LINES;
+
+const SB_FROM: usize = NB_FROM + layout::LINES;
+
+const NB_SB_FROM: usize = layout::PAIRS_FROM + layout::PAIR_CELLS;
 
 fn wide(x: u32) -> u64 {
     x as u64
@@ -33,15 +40,15 @@ fn print_row(row: &[u32]) {
     end_line();
 }
 
-// A row for each approach, for each pair, and for the last eight cells.
-fn print_sheet(cells: [u32; 209]) {
-    print_row(&cells[81..109]);
-    print_row(&cells[109..137]);
-    print_row(&cells[137..165]);
-    print_row(&cells[165..193]);
-    print_row(&cells[193..197]);
-    print_row(&cells[197..201]);
-    print_row(&cells[201..209]);
+// A row for each approach, for each pair, and for the last cells.
+fn print_sheet(cells: [u32; layout::CELLS]) {
+    print_row(&cells[layout::LINES_FROM..WB_FROM]);
+    print_row(&cells[WB_FROM..NB_FROM]);
+    print_row(&cells[NB_FROM..SB_FROM]);
+    print_row(&cells[SB_FROM..layout::PAIRS_FROM]);
+    print_row(&cells[layout::PAIRS_FROM..NB_SB_FROM]);
+    print_row(&cells[NB_SB_FROM..layout::LAST_FROM]);
+    print_row(&cells[layout::LAST_FROM..layout::CELLS]);
 }
 
 fn print_refusal(number: u32, place: u32) {
@@ -59,9 +66,9 @@ fn print_title(number: usize) {
 }
 
 fn print_junction(block: &[u8]) {
-    let mut entries = [0u32; 81];
+    let mut entries = [0u32; layout::ENTRIES];
     study::entries_of(block, &mut entries);
-    let mut cells = [0u32; 209];
+    let mut cells = [0u32; layout::CELLS];
     match sheet::fill(&entries, &mut cells) {
         Answer::Accepted => print_sheet(cells),
         Answer::Refused(why, place) => print_refusal(why.number(), place),
@@ -69,12 +76,12 @@ fn print_junction(block: &[u8]) {
 }
 
 fn print_all(file: &[u8]) {
-    let count = file.len() / BLOCK;
+    let count = file.len() / study::BLOCK_BYTES;
     let mut i = 0;
     while i < count {
         print_title(i + 1);
-        let at = i * BLOCK;
-        let end = at + BLOCK;
+        let at = i * study::BLOCK_BYTES;
+        let end = at + study::BLOCK_BYTES;
         print_junction(&file[at..end]);
         i += 1;
     }

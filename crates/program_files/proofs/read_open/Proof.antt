@@ -1,4 +1,4 @@
--- `files::read_open`. The loop's invariant: what is read so far lies within the area.
+-- `program_files::read_open`. The loop's invariant: what is read so far lies within the area.
 use borrow.Rule.Slice.PartMut.{same-len-mid}
 use lib.ListN.{drop, length-take, length-drop}
 use lib.ListN.{length}

@@ -1,6 +1,6 @@
 use borrow.Author.Tests.{lt-ltb, le-ltb, le-leb, lt-leb}
 use borrow.Author.Needs.{needs}
-use Rattle.program_inputs.specs.Desk.{withSite}
+use Rattle.program_inputs.specs.Inputs.{withSite}
 use Rattle.program_inputs.proofs.put_site.Statement.{statement}
 use Rattle.program_inputs.proofs.put_site.Tie as tie
 

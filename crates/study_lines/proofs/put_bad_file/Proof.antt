@@ -1,11 +1,11 @@
+-- `study_lines::put_bad_file`. The place stands just past the words.
 use Rattle.text.specs.Text.{ascii}
--- `listing::put_bad_file`. The place stands just past the words.
 use Rattle.text.proofs.Laws.{number-fits, length-numberThen, placed-next}
 use native.Mathlib.Omega.{arith}
-use Rattle.study_listing.specs.Listing.{lineFeed, fileLine}
+use Rattle.study_lines.specs.Lines.{lineFeed, fileLine}
 use borrow.Author.Needs.{needs}
-use Rattle.study_listing.proofs.put_bad_file.Statement.{statement}
-use Rattle.study_listing.proofs.put_bad_file.Tie as tie
+use Rattle.study_lines.proofs.put_bad_file.Statement.{statement}
+use Rattle.study_lines.proofs.put_bad_file.Tie as tie
 
 put-number-then-requires : tie.Need-put-number-then-requires
 put-number-then-requires c κs = number-fits _ _ _ _ (omega arith)

@@ -1,7 +1,7 @@
--- `listing::phasing_byte`. The three bytes.
+-- `study_lines::phasing_byte`. The three bytes.
 use borrow.Author.Tests.{eq-eqb, ne-eqb}
-use Rattle.study_listing.proofs.phasing_byte.Statement.{statement}
-use Rattle.study_listing.proofs.phasing_byte.Tie as tie
+use Rattle.study_lines.proofs.phasing_byte.Statement.{statement}
+use Rattle.study_lines.proofs.phasing_byte.Tie as tie
 
 returns : tie.Need-returns
 returns c = simp (eq-eqb _ _ (c .if1 .taken))

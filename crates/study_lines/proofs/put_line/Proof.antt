@@ -1,8 +1,8 @@
--- `listing::put_line`. A rated site's line, or a refused site's.
+-- `study_lines::put_line`. A rated site's line, or a refused site's.
 use native.Mathlib.Omega.{arith}
 use borrow.Author.Needs.{needs}
-use Rattle.study_listing.proofs.put_line.Statement.{statement}
-use Rattle.study_listing.proofs.put_line.Tie as tie
+use Rattle.study_lines.proofs.put_line.Statement.{statement}
+use Rattle.study_lines.proofs.put_line.Tie as tie
 
 put-rated-requires : tie.Need-put-rated-requires
 put-rated-requires c κs = (rw (c .before .before .site .given .1) at (c .before .before .before .before .before .pre .0), omega arith)
