@@ -117,7 +117,7 @@ changes-on-any-sheet = all-cells
 
 pub refused-changes :
     {why : Refusal} {place : ℕ} (d : List ℕ) (changes : List Change) → togetherAnswer d changes ≡ Refused why place → amendedTogether d changes ≡ d
-refused-changes = all-stays
+refused-changes d changes = all-stays d changes
 
 -- The case of one, as the rules have it: SIZE, ENTRY, then the entries as they would stand; what the entry reaches is renewed.
 pub answer-of-one : (d : List ℕ) (i v : ℕ) → amendAnswer d i v ≡ (sheetAnswer d then entryAnswer i then judged (set (take entryCount d) i v))
