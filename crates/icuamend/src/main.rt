@@ -4,6 +4,19 @@ use libc::STDERR_FILENO;
 use libc::STDOUT_FILENO;
 use program_files::Input;
 
+// The arguments, by number.
+const STUDY: usize = 1;
+
+const SITE: usize = 2;
+
+const NAME: usize = 3;
+
+const ENTRY: usize = 4;
+
+const VALUE: usize = 5;
+
+const NEW: usize = 6;
+
 // What is changed: a site, one of its entries, and the entry's new value.
 struct Change {
     site: u32,
@@ -68,7 +81,7 @@ fn amend_entries(entries: &[u32; layout::ENTRIES], change: Change) -> bool {
 
 fn amend_site(file: &[u8], change: Change) -> bool {
     let mut entries = [0u32; layout::ENTRIES];
-    if !program_inputs::read_site(file, 2, &mut entries) {
+    if !program_inputs::read_site(file, SITE, &mut entries) {
         return false;
     }
     amend_entries(&entries, change)
@@ -105,7 +118,7 @@ fn write_changed(file: &[u8], change: Change) {
         layout::ENTRIES * change.site as usize + change.entry as usize,
         change.value,
     );
-    program_inputs::write_study(6, study::count(file), &all);
+    program_inputs::write_study(NEW, study::count(file), &all);
 }
 
 fn amend_study(file: &[u8], change: Change, is_kept: bool) {
@@ -122,7 +135,7 @@ fn amend_from(area: &[u8; program_inputs::AREA_BYTES], size: usize, change: Chan
 
 fn run(change: Change, is_kept: bool) {
     let mut area = [0u8; program_inputs::AREA_BYTES];
-    let input = program_inputs::read_file(1, &mut area);
+    let input = program_inputs::read_file(STUDY, &mut area);
     let Input::Read(size) = input else {
         return;
     };
@@ -131,25 +144,25 @@ fn run(change: Change, is_kept: bool) {
 
 fn main() {
     let count = os::arg_count();
-    if count != 6 && count != 7 {
+    if count != NEW && count != NEW + 1 {
         tell_use();
         return;
     }
-    let entry = program_inputs::entry_in(3, 4);
-    let value = program_inputs::number_in(5);
+    let entry = program_inputs::entry_in(NAME, ENTRY);
+    let value = program_inputs::number_in(VALUE);
     if entry == text_names::ENTRIES {
-        program_inputs::complain(4, b"no entry has this name there\n");
+        program_inputs::complain(ENTRY, b"no entry has this name there\n");
         tell_use();
         return;
     }
     if text_numbers::NOT_NUMBER <= value {
-        program_inputs::complain(5, b"a whole number is expected here\n");
+        program_inputs::complain(VALUE, b"a whole number is expected here\n");
         return;
     }
     let change = Change {
-        site: program_inputs::site_in(2),
+        site: program_inputs::site_in(SITE),
         entry,
         value: value as u32,
     };
-    run(change, count == 7);
+    run(change, NEW < count);
 }

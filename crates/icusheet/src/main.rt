@@ -4,6 +4,11 @@ use libc::STDERR_FILENO;
 use libc::STDOUT_FILENO;
 use program_files::Input;
 
+// The arguments: a text or a study file, and a site of the study.
+const INPUT: usize = 1;
+
+const SITE: usize = 2;
+
 fn tell_use() {
     io::write_all(
         STDERR_FILENO,
@@ -38,7 +43,7 @@ fn print_junction(entries: &[u32; layout::ENTRIES]) {
 
 fn print_site(file: &[u8]) {
     let mut entries = [0u32; layout::ENTRIES];
-    if program_inputs::read_site(file, 2, &mut entries) {
+    if program_inputs::read_site(file, SITE, &mut entries) {
         print_junction(&entries);
     }
 }
@@ -49,14 +54,14 @@ fn print_from(area: &[u8; program_inputs::AREA_BYTES], size: usize) {
 
 fn of_text() {
     let mut entries = [0u32; layout::ENTRIES];
-    if program_inputs::read_junction(1, &mut entries) {
+    if program_inputs::read_junction(INPUT, &mut entries) {
         print_junction(&entries);
     }
 }
 
 fn of_study() {
     let mut area = [0u8; program_inputs::AREA_BYTES];
-    let input = program_inputs::read_file(1, &mut area);
+    let input = program_inputs::read_file(INPUT, &mut area);
     let Input::Read(size) = input else {
         return;
     };

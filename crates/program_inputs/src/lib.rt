@@ -156,7 +156,10 @@ pub fn write_study(argument: usize, sites: u32, all: &[u32]) {
         refuse(answer);
         return;
     };
-    write_file(argument, program_files::front(&file, study::file_bytes(sites)));
+    write_file(
+        argument,
+        program_files::front(&file, study::file_bytes(sites)),
+    );
 }
 
 // The front of the entries; all of them, where they are fewer.

@@ -53,27 +53,27 @@ length-fileLine place = omega (arith, length-numberThen place lineFeed)
 module _
     {list one two three : List ℕ} {at n m p : ℕ} (number : ℕ) (room : at + lineMost ≤ length list)
     (first : Placed list at (numberThen number space) one n)
-    where
-  pub rated-placed : (r : Rating) → Placed one n (numberThen (r .icu) space) two m → Placed two m (ending r) three p
-      → Placed list at (ratedLine number r) three p
-  unfolding ratedLine
-  rated-placed r second third =
-      let l = length-append (numberThen number space) (numberThen (r .icu) space) in
-      let h = length-numberThen number space in
-      let k = length-numberThen (r .icu) space in
-      placed-next (placed-next first second (omega arith)) third (omega arith)
+  where
+    pub rated-placed : (r : Rating) → Placed one n (numberThen (r .icu) space) two m → Placed two m (ending r) three p
+        → Placed list at (ratedLine number r) three p
+    unfolding ratedLine
+    rated-placed r second third =
+        let l = length-append (numberThen number space) (numberThen (r .icu) space) in
+        let h = length-numberThen number space in
+        let k = length-numberThen (r .icu) space in
+        placed-next (placed-next first second (omega arith)) third (omega arith)
 
-  pub refused-placed : {four : List ℕ} {q : ℕ} (why : Refusal) (place : ℕ)
-      → Placed one n mark two m
-      → Placed two m (numberThen (refusalNumber why) space) three p
-      → Placed three p (numberThen place lineFeed) four q
-      → Placed list at (refusedLine number why place) four q
-  unfolding refusedLine
-  refused-placed why place second third fourth =
-      let head = numberThen number space ++ mark in
-      let l = length-append (numberThen number space) mark in
-      let m = length-append head (numberThen (refusalNumber why) space) in
-      let h = length-numberThen number space in
-      let i = length-numberThen (refusalNumber why) space in
-      let k = length-numberThen place lineFeed in
-      placed-next (placed-next (placed-next first second (omega arith)) third (omega arith)) fourth (omega arith)
+    pub refused-placed : {four : List ℕ} {q : ℕ} (why : Refusal) (place : ℕ)
+        → Placed one n mark two m
+        → Placed two m (numberThen (refusalNumber why) space) three p
+        → Placed three p (numberThen place lineFeed) four q
+        → Placed list at (refusedLine number why place) four q
+    unfolding refusedLine
+    refused-placed why place second third fourth =
+        let head = numberThen number space ++ mark in
+        let l = length-append (numberThen number space) mark in
+        let m = length-append head (numberThen (refusalNumber why) space) in
+        let h = length-numberThen number space in
+        let i = length-numberThen (refusalNumber why) space in
+        let k = length-numberThen place lineFeed in
+        placed-next (placed-next (placed-next first second (omega arith)) third (omega arith)) fourth (omega arith)

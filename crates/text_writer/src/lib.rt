@@ -8,11 +8,8 @@ ghost use Rattle.text.specs.Text.{Placed};
 ghost use Rattle.text_writer.specs.Writer.{opening, closing, entryText, junctionText};
 ghost use Rattle.text_writer.specs.Working.{openingMost, entryMost};
 
-// A u32 has at most ten digits.
-const DIGITS_MOST: usize = 10;
-
 // A title, a name, and a value, each with the byte past it.
-const ENTRY_MOST: usize = 2 * (text_names::WIDTH + 1) + (DIGITS_MOST + 1);
+const ENTRY_MOST: usize = 2 * (text_names::WIDTH + 1) + (text::DIGITS_MOST + 1);
 
 // Room for the text of any entries.
 pub const TEXT_BYTES: usize = ENTRY_MOST * layout::ENTRIES;

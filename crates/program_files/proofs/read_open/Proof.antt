@@ -1,7 +1,6 @@
 -- `program_files::read_open`. The loop's invariant: what is read so far lies within the area.
 use borrow.Rule.Slice.PartMut.{same-len-mid}
-use lib.ListN.{drop, length-take, length-drop}
-use lib.ListN.{length}
+use lib.ListN.{length, drop, length-take, length-drop}
 use native.Mathlib.Omega.{arith}
 use borrow.Author.Needs.{needs}
 use Prim.Native.Nat.{_≤_, _-_}
@@ -30,7 +29,8 @@ add-done c =
     let loop = c .before .before .before .before .before .before .before .before .before .loop in
     let within = rw (c .before .before .input .given .1) at (read .read-once .ensures) in
     let kept = read .read-once .kept .1 .0 in
-    omega (arith, within, kept, length-take (length (loop .area) - loop .done) (drop (loop .done) (loop .area)), length-drop (loop .done) (loop .area))
+    let part = length-take (length (loop .area) - loop .done) (drop (loop .done) (loop .area)) in
+    omega (arith, within, kept, part, length-drop (loop .done) (loop .area))
 
 loop-again : tie.Need-loop-again Inv-loop μ-loop
 loop-again c =
@@ -39,8 +39,8 @@ loop-again c =
     let within = rw (c .before .before .input .given .1) at (read .read-once .ensures) in
     let kept = read .read-once .kept .1 .0 in
     let same = same-len-mid (loop .done) (length (loop .area) - loop .done) (loop .area) (read .read-once .last .1 .0) kept in
-    rw same
-    (omega (arith, within, kept, length-take (length (loop .area) - loop .done) (drop (loop .done) (loop .area)), length-drop (loop .done) (loop .area)), loop .inv .1)
+    let part = length-take (length (loop .area) - loop .done) (drop (loop .done) (loop .area)) in
+    rw same (omega (arith, within, kept, part, length-drop (loop .done) (loop .area)), loop .inv .1)
 
 pub read-open-spec : {M : Type 1} → statement M
 read-open-spec =

@@ -1,3 +1,4 @@
+-- `program_inputs::put_site`. The definition asks the same two tests: each way through them is one of its cases.
 use borrow.Author.Tests.{lt-ltb, le-ltb, le-leb, lt-leb}
 use borrow.Author.Needs.{needs}
 use Rattle.program_inputs.specs.Inputs.{withSite}

@@ -6,6 +6,7 @@ use Rattle.study.specs.Study.{sitesOf, siteEntries}
 use Rattle.text.specs.Text.{Placed}
 use lib.ListN.{length}
 use native.Mathlib.Omega.{arith}
+use borrow.Author.Needs.{needs}
 use Prim.Native.Nat.{_≤_, _-_}
 use mathlib.Core.Path.{_≡_, refl}
 use Rattle.study_listing.proofs.put_sites.Statement.{statement}
@@ -17,14 +18,8 @@ Inv-loop file out₀ sites at₀ site₀ out at site = (site ≤ sites) × (leng
 abbrev μ-loop : tie.MeasureT-loop
 μ-loop file out₀ sites at₀ site₀ out at site = sites - site
 
-count-requires : tie.Need-count-requires Inv-loop μ-loop
-count-requires c κs = tt
-
 loop-holds : tie.Need-loop-holds Inv-loop μ-loop
 loop-holds c = (omega arith, refl, no-lines _ _)
-
-add-put-line : tie.Need-add-put-line Inv-loop μ-loop
-add-put-line c = omega arith
 
 site-cells-requires : tie.Need-site-cells-requires Inv-loop μ-loop
 site-cells-requires c κs =
@@ -40,12 +35,6 @@ put-line-requires c κs =
     let e = siteEntries (args .file .now) (loop .loop .site) in
     (rw (c .site-cells .ensures) (lettered e), omega (arith, length-siteLines (args .file .now) (loop .loop .site)))
 
-add-site : tie.Need-add-site Inv-loop μ-loop
-add-site c = omega arith
-
-loop-less : tie.Need-loop-less Inv-loop μ-loop
-loop-less c = omega arith
-
 loop-again : tie.Need-loop-again Inv-loop μ-loop
 loop-again c =
     let call = c .before .before in
@@ -57,9 +46,6 @@ loop-again c =
       one-line-more (args .file .now) (loop .loop .site) (omega arith) (omega arith) (loop .loop .inv .2) line,
     )
 
-same-length : tie.Need-same-length Inv-loop μ-loop
-same-length c = omega arith
-
 returns : tie.Need-returns Inv-loop μ-loop
 returns c =
     let start = c .before .before .before .before .before in
@@ -70,5 +56,5 @@ returns c =
 pub put-sites-spec : {M : Type 1} → statement M
 put-sites-spec =
     tie.close
-    (tie.spec Inv-loop μ-loop count-requires loop-holds add-put-line site-cells-requires put-line-requires add-site
-    loop-less loop-again same-length returns)
+    (tie.spec Inv-loop μ-loop (search needs) loop-holds (search needs) site-cells-requires put-line-requires (search needs)
+    (search needs) loop-again (search needs) returns)
