@@ -80,7 +80,8 @@ module _ (e : List ℕ) where
   pub range-ends : (i a b k n : ℕ) {r : Bool} → allInRange e i a ≡ true → k ≡ i + a → n ≡ a + b → r ≡ allInRange e k b → r ≡ allInRange e i n
   range-ends i a b k n before here whole told = told ∙ rw (here, whole, in-parts i a b, before)
 
-  pub range-goes-on : (i a b k n : ℕ) {r : Bool} → allInRange e i a ≡ true → k ≡ i + a → n ≡ a + b → r ≡ allInRange e k b → not r ≡ false → allInRange e i n ≡ true
+  pub range-goes-on : (i a b k n : ℕ) {r : Bool} → allInRange e i a ≡ true → k ≡ i + a → n ≡ a + b → r ≡ allInRange e k b → not r ≡ false
+      → allInRange e i n ≡ true
   range-goes-on i a b k n before here whole told good = sym (range-ends i a b k n before here whole told) ∙ not-false _ good
 
   -- any part that is not in range decides
@@ -153,6 +154,7 @@ module _ (e : List ℕ) (ok : judged e ≡ Accepted) where
   unfolding unserved
   accepted-served m h v = go (eqb (lanes e m) 0) refl (not-both (ltb 0 (volume e m)) _ (fault-free NoLane (last .1) m h) (lt-ltb _ _ v))
     where
-      go : (t : Bool) → eqb (lanes e m) 0 ≡ t → (t && eqb (otherLanes e (m / groupCount) (groupOf m)) 0) ≡ false → 0 < lanes e m + otherLanes e (m / groupCount) (groupOf m)
+      go : (t : Bool) → eqb (lanes e m) 0 ≡ t → (t && eqb (otherLanes e (m / groupCount) (groupOf m)) 0) ≡ false
+          → 0 < lanes e m + otherLanes e (m / groupCount) (groupOf m)
       go true p q = omega (arith, eqb-false (otherLanes e (m / groupCount) (groupOf m)) 0 q)
       go false p q = omega (arith, eqb-false (lanes e m) 0 p)

@@ -63,7 +63,9 @@ pub extern "C" fn icu_study_count(file: &[u8]) -> u32
 #[no_mangle]
 pub extern "C" fn icu_study_site(file: &[u8], site: u32, entries: &mut [u32]) -> IcuAnswer
     ensures { λ r. ⌜ r ≡ told (siteEntriesAnswer (now (file .entry)) site (length (now (entries .entry)))) ⌝ }
-    ensures { λ r. ⌜ now (entries .exit) ≡ left-by (siteEntriesAnswer (now (file .entry)) site (length (now (entries .entry)))) (siteEntries (now (file .entry)) site) (now (entries .entry)) ⌝ }
+    ensures { λ r. ⌜ now (entries .exit)
+        ≡ left-by (siteEntriesAnswer (now (file .entry)) site (length (now (entries .entry)))) (siteEntries (now (file .entry)) site)
+        (now (entries .entry)) ⌝ }
 {
     tell(study::site_entries(file, site, entries))
 }
@@ -72,7 +74,9 @@ pub extern "C" fn icu_study_site(file: &[u8], site: u32, entries: &mut [u32]) ->
 #[no_mangle]
 pub extern "C" fn icu_study_write(entries: &[u32], out: &mut [u8]) -> IcuAnswer
     ensures { λ r. ⌜ r ≡ told (writeAnswer (now (entries .entry)) (length (now (out .entry)))) ⌝ }
-    ensures { λ r. ⌜ now (out .exit) ≡ left-by (writeAnswer (now (entries .entry)) (length (now (out .entry)))) (over (now (out .entry)) 0 (fileOf (now (entries .entry)))) (now (out .entry)) ⌝ }
+    ensures { λ r. ⌜ now (out .exit)
+        ≡ left-by (writeAnswer (now (entries .entry)) (length (now (out .entry)))) (over (now (out .entry)) 0 (fileOf (now (entries .entry))))
+        (now (out .entry)) ⌝ }
 {
     tell(study::write(entries, out))
 }
@@ -81,8 +85,11 @@ pub extern "C" fn icu_study_write(entries: &[u32], out: &mut [u8]) -> IcuAnswer
 #[no_mangle]
 pub extern "C" fn icu_study_list(file: &[u8], out: &mut [u8], written: &mut u32) -> IcuAnswer
     ensures { λ r. ⌜ r ≡ told (listAnswer (now (file .entry)) (length (now (out .entry)))) ⌝ }
-    ensures { λ r. ⌜ now (out .exit) ≡ left-by (listAnswer (now (file .entry)) (length (now (out .entry)))) (over (now (out .entry)) 0 (listing (now (file .entry)))) (now (out .entry)) ⌝ }
-    ensures { λ r. ⌜ now (written .exit) ≡ left-by (listAnswer (now (file .entry)) (length (now (out .entry)))) (length (listing (now (file .entry)))) (now (written .entry)) ⌝ }
+    ensures { λ r. ⌜ now (out .exit)
+        ≡ left-by (listAnswer (now (file .entry)) (length (now (out .entry)))) (over (now (out .entry)) 0 (listing (now (file .entry))))
+        (now (out .entry)) ⌝ }
+    ensures { λ r. ⌜ now (written .exit)
+        ≡ left-by (listAnswer (now (file .entry)) (length (now (out .entry)))) (length (listing (now (file .entry)))) (now (written .entry)) ⌝ }
 {
     tell(study_listing::list(file, out, written))
 }

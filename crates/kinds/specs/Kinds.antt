@@ -9,7 +9,8 @@ use Rattle.kinds.specs.declared.Limits.{Limits}
 use Rattle.kinds.specs.declared.Group.{Group}
 use Rattle.kinds.specs.declared.Group.the-variants.{Left, Through, Right}
 use Rattle.kinds.specs.declared.Kind.{Kind}
-use Rattle.kinds.specs.declared.Kind.the-variants.{Lanes, Volume, IdealFlow, LostTime, MinimumGreen, SharedLane, Pedestrians, PushButton, PedestrianTime, FreeRight, Cycle}
+use Rattle.kinds.specs.declared.Kind.the-variants.{Lanes, Volume, IdealFlow, LostTime, MinimumGreen}
+use Rattle.kinds.specs.declared.Kind.the-variants.{SharedLane, Pedestrians, PushButton, PedestrianTime, FreeRight, Cycle}
 
 infix 40 _to_usually_
 abbrev pub _to_usually_ : ℕ → ℕ → ℕ → Limits

@@ -2,7 +2,8 @@
 use mathlib.Core.Path.{_≡_, refl, sym, _∙_}
 use mathlib.Core.Bool.{Bool, true, false, cond}
 use Prim.Native.Nat.{ℕ, zero, suc, _+_, _-_, _*_, _/_, _≤_, _<_}
-use native.Mathlib.Nat.{le-trans, mul-le-mul, mul-le-mul-right, mul-pos, mul-assoc, mul-left-comm, mul-mul-mul-comm, sub-zero, div-eq-of-eq-mul-left, mul-div-mul-right}
+use native.Mathlib.Nat.{le-trans, mul-le-mul, mul-le-mul-right, mul-pos, mul-assoc}
+use native.Mathlib.Nat.{mul-left-comm, mul-mul-mul-comm, sub-zero, div-eq-of-eq-mul-left, mul-div-mul-right}
 use native.Mathlib.Decide.{decLt}
 use native.Mathlib.Omega.{arith}
 use lib.Dec.{eqb, lit≤}

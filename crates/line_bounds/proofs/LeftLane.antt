@@ -2,7 +2,8 @@
 use mathlib.Core.Path.{_≡_, refl}
 use mathlib.Core.Bool.{Bool, true, false, cond, _&&_}
 use Prim.Native.Nat.{ℕ, _+_, _-_, _*_, _/_, _≤_, _<_}
-use native.Mathlib.Nat.{mul-le-mul, mul-le-mul-left, le-mul-of-pos-right, mul-pos, zero-mul, mul-div-mul-left, mul-div-mul-right, le-div-iff-mul-le, div-le-of-le-mul}
+use native.Mathlib.Nat.{mul-le-mul, mul-le-mul-left, le-mul-of-pos-right, mul-pos}
+use native.Mathlib.Nat.{zero-mul, mul-div-mul-left, mul-div-mul-right, le-div-iff-mul-le, div-le-of-le-mul}
 use native.Mathlib.Decide.{decLt}
 use native.Mathlib.Omega.{arith}
 use lib.Dec.{eqb}
@@ -18,7 +19,8 @@ use Rattle.procedure.specs.declared.Approach.{Approach}
 use Rattle.procedure.specs.Approach.{n, v, isShared}
 use Rattle.procedure.specs.Ranges.{Fair, FairCycle}
 use Rattle.procedure.specs.Lines.{b, vC, flow, heaviest, vLL, q, single, leftShare, equivalent, E, flowA, sA}
-use Rattle.line_bounds.specs.Bounds.{whole, mostVolume, leastLaneFlow, mostFlow, mostNum, mostEquivalent, leastParts, mostParts, leastMixed, mostMixed, mostMixedServed}
+use Rattle.line_bounds.specs.Bounds.{whole, mostVolume, leastLaneFlow, mostFlow, mostNum}
+use Rattle.line_bounds.specs.Bounds.{mostEquivalent, leastParts, mostParts, leastMixed, mostMixed, mostMixedServed}
 use Rattle.line_bounds.proofs.Numbers.{up-least, shared-out, chosen-most}
 use Rattle.line_bounds.proofs.Flows.{Volumes, volumes, parted, group-serving}
 
@@ -47,7 +49,8 @@ pub equivalent-room : (q o CL : ℕ) → q ≤ whole → o ≤ whole → FairCyc
 unfolding equivalent
 equivalent-room q o CL h k cycle =
     let square : q * q ≤ whole * whole = mul-le-mul h h in
-    let over : (500_000_000 + 80_000 * q - 3 * (q * q)) * CL ≤ mostNum * mostOf Cycle = mul-le-mul {n₂ = mostNum} {m₂ = mostOf Cycle} (omega arith) (cycle .most) in
+    let over : (500_000_000 + 80_000 * q - 3 * (q * q)) * CL ≤ mostNum * mostOf Cycle = mul-le-mul {n₂ = mostNum} {m₂ = mostOf Cycle} (omega arith)
+    (cycle .most) in
     record {
       square = square;
       oncoming = mul-le-mul k (cycle .most);
@@ -187,7 +190,8 @@ carried s o CL ok cycle = go (eqb (vC s) 0) refl
         let share = share-most (b s) H (heaviest-least (b s) (vC s) (n s Through)) in
         let served = group-serving s ok Through in
         let room = equivalent-room (up (whole * b s) H) (leftShare o) CL share (share-within o) cycle in
-        let lane = carries H (flow s Through) (up (whole * b s) H) (leftShare o) CL (n s Through) all (served .most) share (share-within o) cycle some (served .least) in
+        let lane = carries H (flow s Through) (up (whole * b s) H) (leftShare o) CL (n s Through) all (served .most) share
+        (share-within o) cycle some (served .least) in
         record {
           heaviest-most = rw e all;
           share-most = rw e share;

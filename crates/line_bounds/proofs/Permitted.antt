@@ -2,7 +2,8 @@
 use mathlib.Core.Path.{_≡_, refl, sym}
 use mathlib.Core.Bool.{Bool, true, false, cond}
 use Prim.Native.Nat.{ℕ, _+_, _-_, _*_, _/_, _≤_, _<_, min}
-use native.Mathlib.Nat.{mul-le-mul-left, mul-left-comm, mul-assoc, mul-comm, le-of-eq, le-trans, le-div-iff-mul-le, div-le-of-le-mul, div-mul-le-self, le-of-mul-le-mul-left, mul-right-comm}
+use native.Mathlib.Nat.{mul-le-mul-left, mul-left-comm, mul-assoc, mul-comm, le-of-eq}
+use native.Mathlib.Nat.{le-trans, le-div-iff-mul-le, div-le-of-le-mul, div-mul-le-self, le-of-mul-le-mul-left, mul-right-comm}
 use native.Mathlib.Omega.{arith}
 use lib.Dec.{eqb}
 use borrow.Author.Tests.{eqb-true, eqb-false, ne-eqb}
@@ -16,9 +17,11 @@ use Rattle.kinds.specs.Working.{mostOf}
 use Rattle.procedure.specs.declared.Approach.{Approach}
 use Rattle.procedure.specs.Approach.{n, v, i, isShared}
 use Rattle.procedure.specs.Ranges.{Fair, FairCycle}
-use Rattle.procedure.specs.Lines.{a, b, volume, vC, vST, fT, flowOf, flow, sST, sSL, interference, time, weighted, vLL, leftShare, sA, optionAOf, leftA, optionA}
+use Rattle.procedure.specs.Lines.{a, b, volume, vC, vST, fT, flowOf, flow, sST}
+use Rattle.procedure.specs.Lines.{sSL, interference, time, weighted, vLL, leftShare, sA, optionAOf, leftA, optionA}
 use Rattle.procedure.specs.Lines.{allowedA, allowedB, empty, line23, line24, line25, line26, sB, throughB, optionB, lesser}
-use Rattle.line_bounds.specs.Bounds.{whole, mostVolume, leastStraight, mostServed, mostHeld, mostMixedServed, mostAdded, mostOption, mostPermitted, Timely}
+use Rattle.line_bounds.specs.Bounds.{whole, mostVolume, leastStraight, mostServed, mostHeld}
+use Rattle.line_bounds.specs.Bounds.{mostMixedServed, mostAdded, mostOption, mostPermitted, Timely}
 use Rattle.line_bounds.proofs.Numbers.{up-covers, shared-out, part-most}
 use Rattle.line_bounds.proofs.Flows.{volumes, turning-between, straight-between, straight-alike, group-serving}
 use Rattle.line_bounds.proofs.Times.{time-most, passes-most, straight-passes, lefts-pass, interference-most, weighed-added}
@@ -194,7 +197,8 @@ module _ (s : Approach) (CL : ℕ) (fair : Fair s) (cycle : FairCycle CL) where
         let lanes : 0 < n s Left = fair .served Left some in
         let served = group-serving s fair Left in
         let few : up (volume s Left) (n s Left) ≤ mostVolume = omega (arith, shared-out (volume s Left) (n s Left) lanes, volumes s fair .left) in
-        carries (up (volume s Left) (n s Left)) (flow s Left) whole (leftShare o) CL (n s Left) few (served .most) (omega arith) (share-within o) cycle lanes (served .least) .serves
+        carries (up (volume s Left) (n s Left)) (flow s Left) whole (leftShare o) CL (n s Left) few (served .most) (omega arith)
+        (share-within o) cycle lanes (served .least) .serves
 
     optionA-most : optionA s o CL ≤ mostOption
     unfolding optionA
@@ -204,7 +208,8 @@ module _ (s : Approach) (CL : ℕ) (fair : Fair s) (cycle : FairCycle CL) where
         let left = group-serving s fair Left in
         let lanes = up (volume s Left) (n s Left) in
         let held = interference-most s CL Through in
-        let heavy = optionAOf-most (vLL s) (sA s o CL) (vC s) (flow s Through) (interference s Through CL) CL (lane .flow-serves) (through .serves) held (cycle .most) in
+        let heavy = optionAOf-most (vLL s) (sA s o CL) (vC s) (flow s Through) (interference s Through CL) CL (lane .flow-serves)
+        (through .serves) held (cycle .most) in
         let lefts : 0 < volume s Left → optionAOf lanes (leftA s o CL) (volume s Left) (flow s Left) 0 CL ≤ mostOption =
         λ some. optionAOf-most lanes (leftA s o CL) (volume s Left) (flow s Left) 0 CL (lefts-carried some) (left .serves) (omega arith) (cycle .most) in
         omega (arith, part-most (vC s) (λ some. heavy), part-most (volume s Left) lefts)

@@ -77,7 +77,8 @@ fn parts_of(share: u32, equivalent: u32) -> u32
 
 // Line 22. Without lefts each lane has its part of line 6.
 pub fn flow_a(flow: Flow, share: u32, equivalent: u32, lanes: Lanes) -> Flow
-    requires { ⌜ (flow .0 ≤ mostFlow) × (share ≤ whole) × (1 ≤ equivalent) × (equivalent ≤ mostEquivalent) × (0 < lanes .0) × (leastLaneFlow * lanes .0 ≤ flow .0) ⌝ }
+    requires { ⌜ (flow .0 ≤ mostFlow) × (share ≤ whole) × (1 ≤ equivalent) × (equivalent ≤ mostEquivalent) × (0 < lanes .0)
+        × (leastLaneFlow * lanes .0 ≤ flow .0) ⌝ }
     ensures { λ r. ⌜ r .0 ≡ flowA (flow .0) share equivalent (lanes .0) ⌝ }
 {
     if share == 0 {

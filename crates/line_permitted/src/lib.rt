@@ -47,8 +47,11 @@ fn option_a_of(lane: Vph, mixed: Flow, volume: Vph, flow: Flow, held: Ms, cycle:
 
 // The L value of line 23: every car of the lane turns left.
 fn left_option_a(volume: Vph, lanes: Lanes, flow: Flow, oncoming: u32, cycle: Cycle) -> Ms
-    requires { ⌜ Passes (volume .0) (cycle .0) (flow .0) × (0 < volume .0 → 0 < lanes .0) × (leastLaneFlow * lanes .0 ≤ flow .0) × (oncoming ≤ whole) × FairCycle (cycle .0) ⌝ }
-    ensures { λ r. ⌜ r .0 ≡ part (volume .0) (optionAOf (up (volume .0) (lanes .0)) (flowA (flow .0) whole (equivalent whole oncoming (cycle .0)) (lanes .0)) (volume .0) (flow .0) 0 (cycle .0)) ⌝ }
+    requires { ⌜ Passes (volume .0) (cycle .0) (flow .0) × (0 < volume .0 → 0 < lanes .0) × (leastLaneFlow * lanes .0 ≤ flow .0)
+        × (oncoming ≤ whole) × FairCycle (cycle .0) ⌝ }
+    ensures { λ r. ⌜ r .0 ≡ part (volume .0)
+        (optionAOf (up (volume .0) (lanes .0)) (flowA (flow .0) whole (equivalent whole oncoming (cycle .0)) (lanes .0))
+        (volume .0) (flow .0) 0 (cycle .0)) ⌝ }
 {
     if volume.0 == 0 {
         return Ms(0);

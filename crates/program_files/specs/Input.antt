@@ -1,4 +1,4 @@
--- What reading came to.
+-- Working definition: how much reading can have come to.
 use Prim.Native.Nat.{ℕ, _≤_}
 use Rattle.program_files.specs.declared.Input.{Input}
 use Rattle.program_files.specs.declared.Input.the-variants.{Read, Failed}

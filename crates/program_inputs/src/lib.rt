@@ -2,7 +2,8 @@
 // reads or writes, no promise can say; the texts in between are proved calls'.
 ghost use mathlib.Core.Path.{_≡_};
 ghost use lib.ListN.{take};
-ghost use Rattle.program_inputs.specs.Inputs.{siteOf, withSite};
+ghost use Rattle.program_inputs.specs.Inputs.{withSite};
+ghost use Rattle.program_inputs.specs.Working.{siteOf};
 use answers::Answer;
 use libc::STDERR_FILENO;
 use program_files::Input;

@@ -72,7 +72,8 @@ module _ (shared : Bool) (x y : List ℕ) (bx : Bounded x) (by : Bounded y) wher
 
 -- ---- the last eight
 
-right-most : (free : Bool) (x : List ℕ) (cross left : ℕ) → line 18 x ≤ mostAdjusted → cross ≤ mostPicked → left ≤ mostAdjusted → rightTotal free x cross left ≤ mostRequired
+right-most : (free : Bool) (x : List ℕ) (cross left : ℕ) → line 18 x ≤ mostAdjusted → cross ≤ mostPicked → left ≤ mostAdjusted
+    → rightTotal free x cross left ≤ mostRequired
 unfolding rightTotal
 right-most free x cross left h k l =
     chosen-most (eqb (line 3 x) 0) (λ nothing. lit≤ tt) (λ some. chosen-most free (λ alone. omega arith) (λ all. omega arith))

@@ -36,7 +36,8 @@ module _ (e : List ℕ) (ok : judged e ≡ Accepted) where
   small-at a o h k = small (readApproach e a) (readApproach e o) (cycle e) (fair e ok a h) (fair e ok o k) (fair-cycle e ok)
 
   -- the same of the street's own values
-  pub small-street : {a o : ℕ} {r : Street} → a < approachCount → o < approachCount → StreetAt e a o r → Small (cellsOf (r .one)) (cellsOf (r .other)) (pairCells (r .pair))
+  pub small-street : {a o : ℕ} {r : Street} → a < approachCount → o < approachCount → StreetAt e a o r
+      → Small (cellsOf (r .one)) (cellsOf (r .other)) (pairCells (r .pair))
   small-street {a} {o} h k s = rw (s .first, s .second, s .pair) (small-at a o h k)
 
 pub small-pair : {x y : List ℕ} (r : Pair) → Small x y (pairCells r) → SmallPair r

@@ -26,7 +26,8 @@ pub struct Pair {
 
 // One approach's left with the other's through, whichever is larger; not where a lane is shared.
 fn protected_time(shared: bool, x: Times, y: Times) -> Ms
-    requires { ⌜ (x .adjustedleft .0 ≤ mostAdjusted) × (x .adjustedthrough .0 ≤ mostAdjusted) × (y .adjustedleft .0 ≤ mostAdjusted) × (y .adjustedthrough .0 ≤ mostAdjusted) ⌝ }
+    requires { ⌜ (x .adjustedleft .0 ≤ mostAdjusted) × (x .adjustedthrough .0 ≤ mostAdjusted) × (y .adjustedleft .0 ≤ mostAdjusted)
+        × (y .adjustedthrough .0 ≤ mostAdjusted) ⌝ }
     ensures { λ r. ⌜ r .0 ≡ cond shared blank (max (x .adjustedleft .0 + y .adjustedthrough .0) (y .adjustedleft .0 + x .adjustedthrough .0)) ⌝ }
 {
     if shared {

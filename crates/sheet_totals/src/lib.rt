@@ -65,8 +65,10 @@ pub fn right_of(
     cross: Lines,
     crosspair: Pair,
 ) -> Ms
-    requires { ⌜ (line 18 (cellsOf lines) ≤ mostAdjusted) × (throughTime (pairCells crosspair) (cellsOf cross) ≤ mostPicked) × (leftTime (pairCells pair) (cellsOf oncoming) ≤ mostAdjusted) ⌝ }
-    ensures { λ r. ⌜ r .0 ≡ rightTotal (eqb (free .0) 1) (cellsOf lines) (throughTime (pairCells crosspair) (cellsOf cross)) (leftTime (pairCells pair) (cellsOf oncoming)) ⌝ }
+    requires { ⌜ (line 18 (cellsOf lines) ≤ mostAdjusted) × (throughTime (pairCells crosspair) (cellsOf cross) ≤ mostPicked)
+        × (leftTime (pairCells pair) (cellsOf oncoming) ≤ mostAdjusted) ⌝ }
+    ensures { λ r. ⌜ r .0 ≡ rightTotal (eqb (free .0) 1) (cellsOf lines) (throughTime (pairCells crosspair) (cellsOf cross))
+        (leftTime (pairCells pair) (cellsOf oncoming)) ⌝ }
 {
     right_total(
         free,

@@ -14,9 +14,6 @@ siteLimit = 180
 abbrev pub icus : Format
 icus = record { opening = 73 ∷ 67 ∷ 85 ∷ 83 ∷ []; entries = entryCount; most = siteLimit }
 
-abbrev pub blockBytes : ℕ
-blockBytes = format.blockBytes icus
-
 abbrev pub fileBytes : ℕ → ℕ
 fileBytes = format.fileBytes icus
 

@@ -33,7 +33,11 @@ returns : tie.Need-returns Inv-loop μ-loop Inv-loop2 μ-loop2
 returns c = range-stops _ _ _ _ _ (omega arith) (omega arith) (c .before .run-in-range .ensures) (c .if1 .taken)
 
 loop-again : tie.Need-loop-again Inv-loop μ-loop Inv-loop2 μ-loop2
-loop-again c = (omega arith, range-goes-on _ _ _ _ _ _ (c .before .before .before .loop .inv .1) (omega arith) (omega arith) (c .before .run-in-range .ensures) (c .if1 .left))
+loop-again c = (
+  omega arith,
+  range-goes-on _ _ _ _ _ _ (c .before .before .before .loop .inv .1) (omega arith) (omega arith)
+      (c .before .run-in-range .ensures) (c .if1 .left),
+)
 
 loop2-holds : tie.Need-loop2-holds Inv-loop μ-loop Inv-loop2 μ-loop2
 loop2-holds c =
@@ -47,13 +51,18 @@ returns-2 : tie.Need-returns-2 Inv-loop μ-loop Inv-loop2 μ-loop2
 returns-2 c = range-stops _ _ _ _ _ (omega arith) (omega arith) (c .before .run-in-range2 .ensures) (c .if2 .taken)
 
 loop2-again : tie.Need-loop2-again Inv-loop μ-loop Inv-loop2 μ-loop2
-loop2-again c = (omega arith, range-goes-on _ _ _ _ _ _ (c .before .before .before .loop2 .inv .1) (omega arith) (omega arith) (c .before .run-in-range2 .ensures) (c .if2 .left))
+loop2-again c = (
+  omega arith,
+  range-goes-on _ _ _ _ _ _ (c .before .before .before .loop2 .inv .1) (omega arith) (omega arith)
+      (c .before .run-in-range2 .ensures) (c .if2 .left),
+)
 
 returns-3 : tie.Need-returns-3 Inv-loop μ-loop Inv-loop2 μ-loop2
 unfolding kindAt
 returns-3 c =
     let whole : c .before .before .before .loop2 .approach ≡ approachCount = omega arith in
-    range-ends _ _ cycleEntry _ _ _ (rw whole at (c .before .before .before .loop2 .inv .1)) (omega arith) (omega arith) (one-in-range _ cycleEntry cycleEntry refl refl (rw (c .before .cycle-entry .ensures) at (c .holds .ensures)))
+    range-ends _ _ cycleEntry _ _ _ (rw whole at (c .before .before .before .loop2 .inv .1)) (omega arith) (omega arith)
+    (one-in-range _ cycleEntry cycleEntry refl refl (rw (c .before .cycle-entry .ensures) at (c .holds .ensures)))
 
 pub all-in-range-spec : {M : Type 1} → statement M
 all-in-range-spec =

@@ -10,11 +10,22 @@ returns c = rw (← c .before .approach-entry .ensures, ne-eqb _ _ (c .if1 .take
 
 returns-2 : tie.Need-returns-2
 unfolding badlyShared
-returns-2 c = rw (← c .before .before .before .approach-entry .ensures, ← c .before .movement-entry .ensures, eq-eqb _ _ (c .before .before .if1 .left), lt-ltb _ _ (c .if2 .taken))
+returns-2 c = rw (
+  ← c .before .before .before .approach-entry .ensures,
+  ← c .before .movement-entry .ensures,
+  eq-eqb _ _ (c .before .before .if1 .left),
+  lt-ltb _ _ (c .if2 .taken),
+)
 
 returns-3 : tie.Need-returns-3
 unfolding badlyShared
-returns-3 c = rw (← c .before .before .before .before .approach-entry .ensures, ← c .before .before .movement-entry .ensures, eq-eqb _ _ (c .before .before .before .if1 .left), le-ltb _ _ (c .before .if2 .left), ← c .movement-entry2 .ensures)
+returns-3 c = rw (
+  ← c .before .before .before .before .approach-entry .ensures,
+  ← c .before .before .movement-entry .ensures,
+  eq-eqb _ _ (c .before .before .before .if1 .left),
+  le-ltb _ _ (c .before .if2 .left),
+  ← c .movement-entry2 .ensures,
+)
 
 pub is-badly-shared-spec : {M : Type 1} → statement M
 is-badly-shared-spec =

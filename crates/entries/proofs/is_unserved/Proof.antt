@@ -21,7 +21,14 @@ unfolding unserved
 returns-3 c =
     let d = c .before .before .before .before .before in
     let h : 0 < d .movement-entry .result = omega (arith, c .before .before .before .before .if1 .left) in
-    rw (← d .movement-entry .ensures, ← c .before .before .before .movement-entry2 .ensures, lt-ltb _ _ h, c .before .before .if2 .left, c .other-lanes .ensures, c .before .of .ensures)
+    rw (
+      ← d .movement-entry .ensures,
+      ← c .before .before .before .movement-entry2 .ensures,
+      lt-ltb _ _ h,
+      c .before .before .if2 .left,
+      c .other-lanes .ensures,
+      c .before .of .ensures,
+    )
 
 pub is-unserved-spec : {M : Type 1} → statement M
 is-unserved-spec =

@@ -23,7 +23,8 @@ returns c =
     let d = c .before .before .before .before .before .before .before in
     let place = c .before .before .before .before .before .loop .place in
     range-stops _ _ _ (d .args .first + place) _ (omega arith) (omega arith)
-    (one-in-range _ _ (d .args .like + place) (d .pre .3 place (omega arith)) (c .before .before .before .at .ensures) (c .before .holds .ensures)) (c .if1 .taken)
+    (one-in-range _ _ (d .args .like + place) (d .pre .3 place (omega arith)) (c .before .before .before .at .ensures) (c .before .holds .ensures))
+    (c .if1 .taken)
 
 loop-again : tie.Need-loop-again Inv-loop μ-loop
 loop-again c =
@@ -31,7 +32,8 @@ loop-again c =
     let place = c .before .before .before .before .before .loop .place in (
       omega arith,
       range-goes-on _ _ _ _ (d .args .first + place) _ (c .before .before .before .before .before .loop .inv .1) (omega arith) (omega arith)
-          (one-in-range _ _ (d .args .like + place) (d .pre .3 place (omega arith)) (c .before .before .before .at .ensures) (c .before .holds .ensures)) (c .if1 .left),
+          (one-in-range _ _ (d .args .like + place) (d .pre .3 place (omega arith)) (c .before .before .before .at .ensures)
+          (c .before .holds .ensures)) (c .if1 .left),
     )
 
 returns-2 : tie.Need-returns-2 Inv-loop μ-loop

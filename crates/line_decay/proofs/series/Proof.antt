@@ -22,7 +22,8 @@ at r {t} {s} {j} h few e f =
     record { few = few; at-term = e; at-sum = f; low = omega (arith, b .low); high = omega (arith, b .high) }
 
 step :
-    {r t s j o u : ℕ} → r < 7200 → Partial r t s j → j < 6 → o ≡ t * r / (7200 * (2 * j + 1)) → u ≡ o * r / (7200 * (2 * j + 2)) → Partial r u (s - o + u) (j + 1)
+    {r t s j o u : ℕ} → r < 7200 → Partial r t s j → j < 6 → o ≡ t * r / (7200 * (2 * j + 1)) → u ≡ o * r / (7200 * (2 * j + 2))
+    → Partial r u (s - o + u) (j + 1)
 step {r} {t} {s} {j} {o} {u} small p h a b =
     let odd : o ≡ term r (2 * j + 1) = rw next-term (cc (a, p .at-term)) in
     let even : u ≡ term r (2 * j + 2) = rw (← add-assoc (2 * j) 1 1, next-term r (2 * j + 1), add-assoc) (cc (b, odd)) in
@@ -40,7 +41,8 @@ unfolding term turns
 loop-holds c = at (c .args .r) (c .pre) (omega arith) refl refl
 
 loop-again : tie.Need-loop-again Inv-loop μ-loop
-loop-again c = step (c .before .before .before .before .pre) (c .before .before .before .loop .inv) (c .before .before .loop-test .taken) (c .before .next-term .ensures .0) (c .next-term2 .ensures .0)
+loop-again c = step (c .before .before .before .before .pre) (c .before .before .before .loop .inv) (c .before .before .loop-test .taken)
+    (c .before .next-term .ensures .0) (c .next-term2 .ensures .0)
 
 returns : tie.Need-returns Inv-loop μ-loop
 returns c =

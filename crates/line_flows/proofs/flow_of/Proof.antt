@@ -9,7 +9,8 @@ use Rattle.line_flows.proofs.flow_of.Tie as tie
 -- the products on the way to the flow
 room :
     (c : tie.After-lane-factor)
-    → FlowRoom (c .before .before .before .args .ideal .0) (c .before .before .before .args .lanes .0) (c .lane-factor .result) (c .before .before .before .args .factor)
+    → FlowRoom (c .before .before .before .args .ideal .0) (c .before .before .before .args .lanes .0) (c .lane-factor .result)
+    (c .before .before .before .args .factor)
 room c =
     let p = c .before .before .before .pre in
     flow-room _ _ _ _ (p .0) (p .1) (c .lane-factor .ensures .1) (p .2)

@@ -44,7 +44,14 @@ returns : tie.Need-returns
 unfolding flow
 returns c =
     let m = c .before .before .before in
-    rw (turning (m .before .before), m .before .flow-of .ensures, through m, c .before .before .flow-of3 .ensures, c .before .straight-of .ensures, c .lefts-of .ensures)
+    rw (
+      turning (m .before .before),
+      m .before .flow-of .ensures,
+      through m,
+      c .before .before .flow-of3 .ensures,
+      c .before .straight-of .ensures,
+      c .lefts-of .ensures,
+    )
 
 pub flows-of-spec : {M : Type 1} → statement M
 flows-of-spec =

@@ -37,7 +37,8 @@ share-whole d =
 
 equivalent-is :
     (d : tie.After-equivalent-of)
-    → d .equivalent-of .result ≡ E (d .before .before .before .before .before .args .s) (d .before .before .before .before .before .args .o) (d .before .before .before .before .before .args .cycle .0)
+    → d .equivalent-of .result ≡ E (d .before .before .before .before .before .args .s) (d .before .before .before .before .before .args .o)
+    (d .before .before .before .before .before .args .cycle .0)
 unfolding E
 equivalent-is d =
     rw (counts (d .before .before .before), ← share-is (d .before)) (rw (d .before .before .before .before .before .pre .3) at (d .equivalent-of .ensures))

@@ -24,7 +24,8 @@ mixed d =
     let s = d .before .before .before .before .before in
     let x = s .args in
     rw (d .flow-a .ensures, d .before .equivalent-of .ensures)
-    (carries (d .before .before .share-out .result) (x .flow .0) whole (x .oncoming) (x .cycle .0) (x .lanes .0) (lane-most (d .before .before)) (s .pre .0 .most)
+    (carries (d .before .before .share-out .result) (x .flow .0) whole (x .oncoming) (x .cycle .0) (x .lanes .0) (lane-most (d .before .before))
+    (s .pre .0 .most)
     (omega arith) (s .pre .3) (s .pre .4) (some (d .before .before .before)) (s .pre .2))
 
 returns : tie.Need-returns

@@ -19,13 +19,15 @@ a-is d = rw (some (d .before)) (d .option-a .ensures)
 
 b-is :
     (d : tie.After-option-b)
-    → d .option-b .result .0 ≡ line24 (d .before .before .before .before .args .s) (d .before .before .before .before .args .o) (d .before .before .before .before .args .cycle .0)
+    → d .option-b .result .0 ≡ line24 (d .before .before .before .before .args .s) (d .before .before .before .before .args .o)
+    (d .before .before .before .before .args .cycle .0)
 unfolding line24
 b-is d = rw (some (d .before .before)) (rw (d .before .before .before .before .pre .2) at (d .option-b .ensures))
 
 lesser-is :
     (d : tie.After-lesser-of)
-    → d .lesser-of .result .0 ≡ line25 (d .before .before .before .before .before .args .s) (d .before .before .before .before .before .args .o) (d .before .before .before .before .before .args .cycle .0)
+    → d .lesser-of .result .0 ≡ line25 (d .before .before .before .before .before .args .s) (d .before .before .before .before .before .args .o)
+    (d .before .before .before .before .before .args .cycle .0)
 unfolding line25
 lesser-is d = rw (← a-is (d .before .before), ← b-is (d .before)) (d .lesser-of .ensures)
 

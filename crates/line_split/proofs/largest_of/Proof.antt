@@ -29,7 +29,14 @@ returns-2 : tie.Need-returns-2
 unfolding line27
 returns-2 c =
     let lefts = c .before .before in
-    rw (c .larger3 .ensures, c .before .larger2 .ensures, lefts .part-time2 .ensures, lefts .before .part-time .ensures, add-zero, lefts .before .before .before .before .pre .1)
+    rw (
+      c .larger3 .ensures,
+      c .before .larger2 .ensures,
+      lefts .part-time2 .ensures,
+      lefts .before .part-time .ensures,
+      add-zero,
+      lefts .before .before .before .before .pre .1,
+    )
 
 pub largest-of-spec : {M : Type 1} → statement M
 largest-of-spec =

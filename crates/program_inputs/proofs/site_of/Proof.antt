@@ -1,6 +1,6 @@
 use borrow.Author.Tests.{le-leb, lt-leb, eq-eqb, ne-eqb}
 use borrow.Author.Needs.{needs}
-use Rattle.program_inputs.specs.Inputs.{siteOf}
+use Rattle.program_inputs.specs.Working.{siteOf}
 use Rattle.program_inputs.proofs.site_of.Statement.{statement}
 use Rattle.program_inputs.proofs.site_of.Tie as tie
 

@@ -17,17 +17,25 @@ returns c =
 returns-2 : tie.Need-returns-2
 unfolding fillAnswer filled
 returns-2 c =
-    let answer = passed _ (c .before .before .before .before .before .check-sheet .ensures) (c .before .before .before .enum-told .given .1) (c .before .before .judge .ensures) in
+    let answer = passed _ (c .before .before .before .before .before .check-sheet .ensures) (c .before .before .before .enum-told .given .1)
+    (c .before .before .judge .ensures) in
     (answer, kept _ _ (sym answer ∙ c .enum-told4 .given .1))
 
 write-fresh-requires : tie.Need-write-fresh-requires
-write-fresh-requires c κs = (sym (c .before .before .before .judge .ensures) ∙ c .before .enum-told3 .given .1, sheet-accepted (now (c .before .before .before .before .before .before .before .before .before .before .args .sheet)) (sym (c .before .before .before .before .before .before .check-sheet .ensures) ∙ c .before .before .before .before .enum-told .given .1))
+write-fresh-requires c κs = (
+  sym (c .before .before .before .judge .ensures)
+      ∙ c .before .enum-told3 .given .1,
+  sheet-accepted (now (c .before .before .before .before .before .before .before .before .before .before .args .sheet))
+      (sym (c .before .before .before .before .before .before .check-sheet .ensures) ∙ c .before .before .before .before .enum-told .given .1),
+)
 
 returns-3 : tie.Need-returns-3
 unfolding fillAnswer filled
 returns-3 c =
     let s = c .before .before .before .before .before .before .before .before .before .before .before .before .before in
-    let answer = passed _ (c .before .before .before .before .before .before .before .before .before .check-sheet .ensures) (c .before .before .before .before .before .before .before .enum-told .given .1) (sym (c .before .before .before .before .enum-told3 .given .1) ∙ c .before .before .before .before .before .before .judge .ensures) in
+    let answer = passed _ (c .before .before .before .before .before .before .before .before .before .check-sheet .ensures)
+    (c .before .before .before .before .before .before .before .enum-told .given .1)
+    (sym (c .before .before .before .before .enum-told3 .given .1) ∙ c .before .before .before .before .before .before .judge .ensures) in
     (answer, c .before .before .write-fresh .ensures ∙ renewed (sheet (now (s .args .entries))) _ (sym answer))
 
 pub fill-spec : {M : Type 1} → statement M

@@ -54,7 +54,14 @@ returns c =
     let short : length (last .last-at .result) ≡ lastCells = ap length (last .last-at .ensures) ∙ last-length e in
     let pairs = pairCells (x .pair) ++ pairCells (y .pair) in
     let size : length d ≡ length (e ++ along ++ across ++ cells) =
-    omega (arith, s .pre .1, length-append (e ++ along ++ across) cells, length-append (e ++ along) across, length-append e along, length-append pairs (last .last-at .result)) in
+    omega (
+      arith,
+      s .pre .1,
+      length-append (e ++ along ++ across) cells,
+      length-append (e ++ along) across,
+      length-append e along,
+      length-append pairs (last .last-at .result),
+    ) in
     over-then d 0 (e ++ along ++ across) cells
     (over-then d 0 (e ++ along) across
     (over-then d 0 e along (entries .put .ensures) (first .put-street .ensures) (omega arith) (omega (arith, s .pre .1)))

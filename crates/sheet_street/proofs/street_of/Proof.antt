@@ -39,7 +39,8 @@ returns c =
       other = rw (first .first-of2 .ensures, later .later-of2 .ensures);
       pair =
           rw (← cells-are-lines (a .s) (a .t) (a .cycle .0), ← cells-are-lines (a .t) (a .s) (a .cycle .0), ← c .before .either-shares .ensures)
-          (rw (first .before .first-of .ensures, first .first-of2 .ensures, later .before .later-of .ensures, later .later-of2 .ensures) at (c .pair-of .ensures));
+          (rw (first .before .first-of .ensures, first .first-of2 .ensures, later .before .later-of .ensures, later .later-of2 .ensures) at
+          (c .pair-of .ensures));
     }
 
 pub street-of-spec : {M : Type 1} → statement M

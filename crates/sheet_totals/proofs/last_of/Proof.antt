@@ -7,7 +7,14 @@ returns : tie.Need-returns
 unfolding lastOf
 returns c =
     let r = c .before .before .before in
-    rw (c .letter-of .ensures, c .before .icu-of .ensures, c .before .before .larger4 .ensures, r .larger3 .ensures, r .before .larger2 .ensures, r .before .before .larger .ensures)
+    rw (
+      c .letter-of .ensures,
+      c .before .icu-of .ensures,
+      c .before .before .larger4 .ensures,
+      r .larger3 .ensures,
+      r .before .larger2 .ensures,
+      r .before .before .larger .ensures,
+    )
 
 pub last-of-spec : {M : Type 1} → statement M
 last-of-spec =
