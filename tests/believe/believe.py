@@ -5,7 +5,7 @@ usage: believe.py [--list] [--check]
 
 A public call is a `pub fn` of the crate icu, or one of those that the programs make their texts and files with (PUBLIC below).
 From the names in its `ensures` the definitions in specs/ are followed, through each file's `use` lines, as far as they go; the
-structs and enums that the code declares count where a definition names them. Lines are counted without blank ones.
+structs and enums that the code declares count where a definition names them. Blank lines and comments are not counted.
 
 The theorem file speaks of some definitions more (runs of amendments, K1 to K10, what fair means): those are counted by themselves.
 All others are working definitions and stand in files of their own: specs/Working.antt, or a file whose first line says so.
@@ -219,7 +219,7 @@ def is_working(crate, file):
 
 
 def count(definitions):
-    return sum(len(d.lines) for d in definitions)
+    return sum(1 for d in definitions for line in d.lines if not line.strip().startswith(("--", "//")))
 
 
 def main():
