@@ -1,7 +1,7 @@
 // The 28 lines of an approach: 1–18, which look at the approach alone, then 19–28, which look across the street.
 ghost use mathlib.Core.Path.{_≡_};
 ghost use Rattle.procedure.specs.Ranges.{Fair, FairCycle};
-ghost use Rattle.line_stages.specs.Stages.{volumesOf, firstOf, laterOf};
+ghost use Rattle.line_stages.specs.Stages.{volumesOf, firstOf, laterOf, linesOf};
 ghost use Rattle.line_stages.specs.Cells.{cellsOf};
 use kinds::Cycle;
 use line_stages::First;
@@ -40,6 +40,16 @@ pub fn later_of(s: Approach, o: Approach, x: First, w: Volumes, cycle: Cycle) ->
         permitted,
         split: line_split::split_of(s, x, cycle),
     }
+}
+
+// All lines of an approach, with o opposite it.
+pub fn lines_of(s: Approach, o: Approach, cycle: Cycle) -> Lines
+    requires { ⌜ Fair s × Fair o × FairCycle (cycle .0) ⌝ }
+    ensures { λ r. ⌜ r ≡ linesOf s o (cycle .0) ⌝ }
+{
+    let first = first_of(s, cycle);
+    let later = later_of(s, o, first, line_flows::volumes_of(o), cycle);
+    Lines { first, later }
 }
 
 // The lines as cells of a sheet, in their order.

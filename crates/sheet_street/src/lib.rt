@@ -30,16 +30,8 @@ pub fn street_of(s: Approach, t: Approach, cycle: Cycle) -> Street
     requires { ⌜ Fair s × Fair t × FairCycle (cycle .0) ⌝ }
     ensures { λ r. ⌜ StreetOf s t (cycle .0) r ⌝ }
 {
-    let x = lines::first_of(s, cycle);
-    let y = lines::first_of(t, cycle);
-    let one = Lines {
-        first: x,
-        later: lines::later_of(s, t, x, y.volumes, cycle),
-    };
-    let other = Lines {
-        first: y,
-        later: lines::later_of(t, s, y, x.volumes, cycle),
-    };
+    let one = lines::lines_of(s, t, cycle);
+    let other = lines::lines_of(t, s, cycle);
     let pair = sheet_pairs::pair_of(either_shares(s, t), one, other);
     Street { one, other, pair }
 }
