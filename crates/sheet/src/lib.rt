@@ -29,10 +29,7 @@ fn street_at(entries: &[u32], a: usize, o: usize) -> Street
     requires { ⌜ (judged (now entries) ≡ Accepted) × (a < approachCount) × (o < approachCount) ⌝ }
     ensures { λ r. ⌜ StreetAt (now (entries .entry)) a o r ⌝ }
 {
-    let s = procedure::read_approach(entries, a);
-    let t = procedure::read_approach(entries, o);
-    let cycle = procedure::read_cycle(entries);
-    sheet_street::street_of(s, t, cycle)
+    sheet_street::street_of(entries, a, o)
 }
 
 fn free_at(entries: &[u32], a: usize) -> FreeRight

@@ -1,12 +1,16 @@
 // A street: the lines of two opposite approaches, and the cells of their pair.
 ghost use mathlib.Core.Path.{_≡_};
 ghost use mathlib.Core.Bool.{_||_};
-ghost use Rattle.procedure.specs.Approach.{isShared};
-ghost use Rattle.procedure.specs.Ranges.{Fair, FairCycle};
+ghost use Prim.Native.Nat.{_<_};
+ghost use lib.ListN.{length};
+ghost use Rattle.answers.specs.declared.Answer.the-variants.{Accepted};
+ghost use Rattle.layout.specs.Entries.{approachCount, entryCount};
+ghost use Rattle.entries.specs.Judging.{judged};
+ghost use Rattle.entries.specs.Layout.{cycle};
+ghost use Rattle.procedure.specs.Approach.{readApproach, isShared};
+ghost use Rattle.line_stages.specs.Stages.{linesOf};
 ghost use Rattle.sheet_street.specs.Street.{StreetOf};
-use kinds::Cycle;
 use line_stages::Lines;
-use procedure::Approach;
 use sheet_pairs::Pair;
 
 pub struct Street {
@@ -15,23 +19,42 @@ pub struct Street {
     pub pair: Pair,
 }
 
-// Whether either approach shares a lane.
-fn either_shares(x: Approach, y: Approach) -> bool
-    ensures { λ r. ⌜ r ≡ (isShared x || isShared y) ⌝ }
+// Whether an approach shares a lane.
+fn shares(entries: &[u32], a: usize) -> bool
+    requires { ⌜ (length (now entries) ≡ entryCount) × (a < approachCount) ⌝ }
+    ensures { λ r. ⌜ r ≡ isShared (readApproach (now (entries .entry)) a) ⌝ }
 {
-    if x.shared.0 == 1 {
+    entries::approach_entry(entries, a, layout::SHARED_NO) == 1
+}
+
+// Whether either approach does.
+fn either_shares(entries: &[u32], a: usize, o: usize) -> bool
+    requires { ⌜ (length (now entries) ≡ entryCount) × (a < approachCount) × (o < approachCount) ⌝ }
+    ensures { λ r. ⌜ r ≡ (isShared (readApproach (now (entries .entry)) a) || isShared (readApproach (now (entries .entry)) o)) ⌝ }
+{
+    if shares(entries, a) {
         return true;
     }
-    y.shared.0 == 1
+    shares(entries, o)
+}
+
+// The lines of an approach of acceptable entries, with o opposite it. Read here, the entries need not be handed on.
+fn lines_at(entries: &[u32], a: usize, o: usize) -> Lines
+    requires { ⌜ (judged (now entries) ≡ Accepted) × (a < approachCount) × (o < approachCount) ⌝ }
+    ensures { λ r. ⌜ r ≡ linesOf (readApproach (now (entries .entry)) a) (readApproach (now (entries .entry)) o) (cycle (now (entries .entry))) ⌝ }
+{
+    let s = procedure::read_approach(entries, a);
+    let t = procedure::read_approach(entries, o);
+    lines::lines_of(s, t, procedure::read_cycle(entries))
 }
 
 // The street of an approach and the one opposite it.
-pub fn street_of(s: Approach, t: Approach, cycle: Cycle) -> Street
-    requires { ⌜ Fair s × Fair t × FairCycle (cycle .0) ⌝ }
-    ensures { λ r. ⌜ StreetOf s t (cycle .0) r ⌝ }
+pub fn street_of(entries: &[u32], a: usize, o: usize) -> Street
+    requires { ⌜ (judged (now entries) ≡ Accepted) × (a < approachCount) × (o < approachCount) ⌝ }
+    ensures { λ r. ⌜ StreetOf (readApproach (now (entries .entry)) a) (readApproach (now (entries .entry)) o) (cycle (now (entries .entry))) r ⌝ }
 {
-    let one = lines::lines_of(s, t, cycle);
-    let other = lines::lines_of(t, s, cycle);
-    let pair = sheet_pairs::pair_of(either_shares(s, t), one, other);
+    let one = lines_at(entries, a, o);
+    let other = lines_at(entries, o, a);
+    let pair = sheet_pairs::pair_of(either_shares(entries, a, o), one, other);
     Street { one, other, pair }
 }

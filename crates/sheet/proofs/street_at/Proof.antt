@@ -1,35 +1,13 @@
-use Rattle.procedure.proofs.Fair.{fair, fair-cycle}
-use Rattle.entries.proofs.Laws.{accepted-count}
+use borrow.Author.Needs.{needs}
 use Rattle.sheet.proofs.Laws.{street-at}
 use denote.Ref.{now}
 use Rattle.sheet.proofs.street_at.Statement.{statement}
 use Rattle.sheet.proofs.street_at.Tie as tie
 
-read-approach-requires : tie.Need-read-approach-requires
-read-approach-requires c κs = (accepted-count _ (c .before .pre .0), c .before .pre .1)
-
-read-approach-requires-2 : tie.Need-read-approach-requires-2
-read-approach-requires-2 c κs = (accepted-count _ (c .before .before .pre .0), c .before .before .pre .2)
-
-read-cycle-requires : tie.Need-read-cycle-requires
-read-cycle-requires c κs = accepted-count _ (c .before .before .before .pre .0)
-
-street-of-requires : tie.Need-street-of-requires
-street-of-requires c κs =
-    let t = c .before in
-    let s = t .before .before .before in
-    let e = now (s .args .entries) in
-    rw (t .before .read-approach .ensures, t .read-approach2 .ensures, c .read-cycle .ensures)
-    (fair e (s .pre .0) (s .args .a) (s .pre .1), fair e (s .pre .0) (s .args .o) (s .pre .2), fair-cycle e (s .pre .0))
-
 returns : tie.Need-returns
 returns c =
-    let t = c .before .before in
-    let s = t .before .before .before in
-    street-at (now (s .args .entries)) (s .args .a) (s .args .o) _
-    (rw (t .before .read-approach .ensures, t .read-approach2 .ensures, c .before .read-cycle .ensures) at (c .street-of .ensures))
+    let s = c .before .before in
+    street-at (now (s .args .entries)) (s .args .a) (s .args .o) _ (c .street-of .ensures)
 
 pub street-at-spec : {M : Type 1} → statement M
-street-at-spec =
-    tie.close
-    (tie.spec read-approach-requires read-approach-requires-2 read-cycle-requires street-of-requires returns)
+street-at-spec = tie.close (tie.spec (λ c. search needs) returns)

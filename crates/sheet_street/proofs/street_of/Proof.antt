@@ -1,31 +1,48 @@
 -- Both approaches' lines are as promised; the pair's cells are those of the lines.
+use Rattle.entries.specs.Layout.{cycle}
+use Rattle.entries.proofs.Laws.{accepted-count}
+use Rattle.procedure.specs.Approach.{readApproach}
+use Rattle.procedure.proofs.Fair.{fair, fair-cycle}
 use Rattle.line_stages.proofs.Laws.{cells-are-lines}
 use Rattle.line_bounds.proofs.Lines.{bounded-lines}
 use borrow.Author.Needs.{needs}
+use denote.Ref.{now}
 use Rattle.sheet_street.proofs.street_of.Statement.{statement}
 use Rattle.sheet_street.proofs.street_of.Tie as tie
 
+either-shares-requires : tie.Need-either-shares-requires
+either-shares-requires c κs =
+    let s = c .before .before .before in
+    (accepted-count _ (s .pre .0), s .pre .1, s .pre .2)
+
 pair-of-requires : tie.Need-pair-of-requires
 pair-of-requires c κs =
-    let lines = c .before in
-    let s = lines .before .before in
-    let a = s .args in
-    rw (lines .before .lines-of .ensures, lines .lines-of2 .ensures) (
-      rw (cells-are-lines (a .s) (a .t) (a .cycle .0)) (bounded-lines _ _ _ (s .pre .0) (s .pre .2)),
-      rw (cells-are-lines (a .t) (a .s) (a .cycle .0)) (bounded-lines _ _ _ (s .pre .1) (s .pre .2)),
+    let both = c .before in
+    let s = both .before .before .before in
+    let e = now (s .args .entries) in
+    let one = readApproach e (s .args .a) in
+    let other = readApproach e (s .args .o) in
+    rw (both .before .lines-at .ensures, both .lines-at2 .ensures) (
+      rw (cells-are-lines one other (cycle e)) (bounded-lines _ _ _ (fair e (s .pre .0) (s .args .a) (s .pre .1)) (fair-cycle e (s .pre .0))),
+      rw (cells-are-lines other one (cycle e)) (bounded-lines _ _ _ (fair e (s .pre .0) (s .args .o) (s .pre .2)) (fair-cycle e (s .pre .0))),
     )
 
 returns : tie.Need-returns
 returns c =
-    let lines = c .before .before in
-    let a = lines .before .before .args in
+    let both = c .before .before in
+    let s = both .before .before .before in
+    let e = now (s .args .entries) in
+    let one = readApproach e (s .args .a) in
+    let other = readApproach e (s .args .o) in
     record {
-      one = lines .before .lines-of .ensures;
-      other = lines .lines-of2 .ensures;
+      one = both .before .lines-at .ensures;
+      other = both .lines-at2 .ensures;
       pair =
-          rw (← cells-are-lines (a .s) (a .t) (a .cycle .0), ← cells-are-lines (a .t) (a .s) (a .cycle .0), ← c .before .either-shares .ensures)
-          (rw (lines .before .lines-of .ensures, lines .lines-of2 .ensures) at (c .pair-of .ensures));
+          rw (← cells-are-lines one other (cycle e), ← cells-are-lines other one (cycle e), ← c .before .either-shares .ensures)
+          (rw (both .before .lines-at .ensures, both .lines-at2 .ensures) at (c .pair-of .ensures));
     }
 
 pub street-of-spec : {M : Type 1} → statement M
-street-of-spec = tie.close (tie.spec (λ c. search needs) (λ c. search needs) (λ c. search needs) pair-of-requires returns)
+street-of-spec =
+    tie.close
+    (tie.spec (λ c. search needs) (λ c. search needs) either-shares-requires pair-of-requires returns)
