@@ -12,23 +12,12 @@ use Rattle.procedure.specs.Pairs.{pickedTime, throughTime, leftTime, rightTotal
 use Rattle.procedure.specs.Sheet.{linesAt, pairAt, rightAt, lastOf, lastAt, sheet}
 use Rattle.procedure.proofs.Fair.{fair, fair-cycle}
 use Rattle.line_stages.specs.Cells.{cellsOf}
-use Rattle.line_stages.proofs.Laws.{cells-are-lines}
 use Rattle.sheet_pairs.specs.Cells.{pairCells}
 use Rattle.sheet_pairs.specs.declared.Pair.{Pair}
 use Rattle.sheet_street.specs.declared.Street.{Street}
-use Rattle.sheet_street.specs.Street.{StreetOf}
+use Rattle.sheet_street.specs.Street.{StreetAt}
 use Rattle.sheet_street.proofs.Laws.{Small, small}
-use Rattle.sheet.specs.Working.{StreetAt, SmallPair}
-
--- a street of the entries' approaches
-pub street-at : (e : List ℕ) (a o : ℕ) (r : Street) → StreetOf (readApproach e a) (readApproach e o) (cycle e) r → StreetAt e a o r
-unfolding linesAt pairAt
-street-at e a o r s =
-    record {
-      first = rw (s .one) (cells-are-lines (readApproach e a) (readApproach e o) (cycle e));
-      second = rw (s .other) (cells-are-lines (readApproach e o) (readApproach e a) (cycle e));
-      pair = s .pair;
-    }
+use Rattle.sheet.specs.Working.{SmallPair}
 
 module _ (e : List ℕ) (ok : judged e ≡ Accepted) where
   pub small-at : (a o : ℕ) → a < approachCount → o < approachCount → Small (linesAt e a o) (linesAt e o a) (pairAt e a o)

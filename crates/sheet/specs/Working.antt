@@ -1,22 +1,14 @@
--- What the filling knows on its way: streets, right totals and pairs of a sheet's entries.
+-- What the filling knows on its way: right totals and pairs of a sheet's entries.
 use mathlib.Core.Path.{_≡_}
 use mathlib.Core.List.{List}
 use Prim.Native.Nat.{ℕ, _≤_}
 use Rattle.layout.specs.Entries.{EB, WB, NB, SB}
 use Rattle.procedure.specs.Pairs.{pickOf, pickedTime}
-use Rattle.procedure.specs.Sheet.{linesAt, pairAt, rightAt}
+use Rattle.procedure.specs.Sheet.{pairAt, rightAt}
 use Rattle.line_bounds.specs.Bounds.{mostPicked}
-use Rattle.line_stages.specs.Cells.{cellsOf}
 use Rattle.sheet_pairs.specs.Cells.{pairCells}
 use Rattle.sheet_pairs.specs.declared.Pair.{Pair}
-use Rattle.sheet_street.specs.declared.Street.{Street}
 use Rattle.sheet_totals.specs.declared.Rights.{Rights}
-
--- the street of approaches a and o
-pub record StreetAt (e : List ℕ) (a o : ℕ) (r : Street) : Type 0 where
-  pub first : cellsOf (r .one) ≡ linesAt e a o
-  pub second : cellsOf (r .other) ≡ linesAt e o a
-  pub pair : pairCells (r .pair) ≡ pairAt e a o
 
 -- the four right totals
 pub record RightsAt (e : List ℕ) (r : Rights) : Type 0 where

@@ -14,7 +14,8 @@ ghost use Rattle.procedure.specs.Sheet.{lastAt, sheet as sheetOf};
 ghost use Rattle.line_bounds.specs.Bounds.{mostPicked};
 ghost use Rattle.line_stages.specs.Cells.{cellsOf};
 ghost use Rattle.sheet_pairs.specs.Cells.{pairCells};
-ghost use Rattle.sheet.specs.Working.{StreetAt, RightsAt, SmallPair};
+ghost use Rattle.sheet_street.specs.Street.{StreetAt};
+ghost use Rattle.sheet.specs.Working.{RightsAt, SmallPair};
 ghost use Rattle.sheet.specs.Fill.{fillAnswer, filled};
 use answers::Answer;
 use kinds::FreeRight;
@@ -23,14 +24,6 @@ use sheet_pairs::Pair;
 use sheet_street::Street;
 use sheet_totals::Rights;
 use units::Ms;
-
-// The street of approaches a and o, opposite each other.
-fn street_at(entries: &[u32], a: usize, o: usize) -> Street
-    requires { ⌜ (judged (now entries) ≡ Accepted) × (a < approachCount) × (o < approachCount) ⌝ }
-    ensures { λ r. ⌜ StreetAt (now (entries .entry)) a o r ⌝ }
-{
-    sheet_street::street_of(entries, a, o)
-}
 
 fn free_at(entries: &[u32], a: usize) -> FreeRight
     requires { ⌜ (length (now entries) ≡ entryCount) × (a < approachCount) ⌝ }
@@ -121,8 +114,8 @@ pub fn write_fresh(entries: &[u32], sheet: &mut [u32])
     requires { ⌜ (judged (now entries) ≡ Accepted) × (length (now sheet) ≡ sheetCount) ⌝ }
     ensures { λ _. ⌜ now (sheet .exit) ≡ sheetOf (now (entries .entry)) ⌝ }
 {
-    let along = street_at(entries, 0, 1);
-    let across = street_at(entries, 2, 3);
+    let along = sheet_street::street_at(entries, 0, 1);
+    let across = sheet_street::street_at(entries, 2, 3);
     let last = last_at(entries, along, across);
     lists::put(sheet, 0, entries);
     put_street(sheet, layout::LINES_FROM, along);

@@ -9,7 +9,7 @@ ghost use Rattle.entries.specs.Judging.{judged};
 ghost use Rattle.entries.specs.Layout.{cycle};
 ghost use Rattle.procedure.specs.Approach.{readApproach, isShared};
 ghost use Rattle.line_stages.specs.Stages.{linesOf};
-ghost use Rattle.sheet_street.specs.Street.{StreetOf};
+ghost use Rattle.sheet_street.specs.Street.{StreetAt};
 use line_stages::Lines;
 use sheet_pairs::Pair;
 
@@ -49,9 +49,9 @@ fn lines_at(entries: &[u32], a: usize, o: usize) -> Lines
 }
 
 // The street of an approach and the one opposite it.
-pub fn street_of(entries: &[u32], a: usize, o: usize) -> Street
+pub fn street_at(entries: &[u32], a: usize, o: usize) -> Street
     requires { ⌜ (judged (now entries) ≡ Accepted) × (a < approachCount) × (o < approachCount) ⌝ }
-    ensures { λ r. ⌜ StreetOf (readApproach (now (entries .entry)) a) (readApproach (now (entries .entry)) o) (cycle (now (entries .entry))) r ⌝ }
+    ensures { λ r. ⌜ StreetAt (now (entries .entry)) a o r ⌝ }
 {
     let one = lines_at(entries, a, o);
     let other = lines_at(entries, o, a);

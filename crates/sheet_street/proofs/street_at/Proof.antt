@@ -2,13 +2,14 @@
 use Rattle.entries.specs.Layout.{cycle}
 use Rattle.entries.proofs.Laws.{accepted-count}
 use Rattle.procedure.specs.Approach.{readApproach}
+use Rattle.procedure.specs.Sheet.{linesAt, pairAt}
 use Rattle.procedure.proofs.Fair.{fair, fair-cycle}
 use Rattle.line_stages.proofs.Laws.{cells-are-lines}
 use Rattle.line_bounds.proofs.Lines.{bounded-lines}
 use borrow.Author.Needs.{needs}
 use denote.Ref.{now}
-use Rattle.sheet_street.proofs.street_of.Statement.{statement}
-use Rattle.sheet_street.proofs.street_of.Tie as tie
+use Rattle.sheet_street.proofs.street_at.Statement.{statement}
+use Rattle.sheet_street.proofs.street_at.Tie as tie
 
 either-shares-requires : tie.Need-either-shares-requires
 either-shares-requires c κs =
@@ -28,6 +29,7 @@ pair-of-requires c κs =
     )
 
 returns : tie.Need-returns
+unfolding linesAt pairAt
 returns c =
     let both = c .before .before in
     let s = both .before .before .before in
@@ -35,14 +37,14 @@ returns c =
     let one = readApproach e (s .args .a) in
     let other = readApproach e (s .args .o) in
     record {
-      one = both .before .lines-at .ensures;
-      other = both .lines-at2 .ensures;
+      first = rw (both .before .lines-at .ensures) (cells-are-lines one other (cycle e));
+      second = rw (both .lines-at2 .ensures) (cells-are-lines other one (cycle e));
       pair =
           rw (← cells-are-lines one other (cycle e), ← cells-are-lines other one (cycle e), ← c .before .either-shares .ensures)
           (rw (both .before .lines-at .ensures, both .lines-at2 .ensures) at (c .pair-of .ensures));
     }
 
-pub street-of-spec : {M : Type 1} → statement M
-street-of-spec =
+pub street-at-spec : {M : Type 1} → statement M
+street-at-spec =
     tie.close
     (tie.spec (λ c. search needs) (λ c. search needs) either-shares-requires pair-of-requires returns)
