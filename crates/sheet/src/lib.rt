@@ -109,18 +109,31 @@ fn put_rest(all: &mut [u32], along: Pair, across: Pair, last: [u32; layout::LAST
     put_last(all, layout::LAST_FROM, last);
 }
 
-// Writes the sheet of acceptable entries.
-pub fn write_fresh(entries: &[u32], sheet: &mut [u32])
+// Writes the sheet of the two streets.
+fn put_sheet(entries: &[u32], sheet: &mut [u32], along: Street, across: Street)
     requires { ⌜ (judged (now entries) ≡ Accepted) × (length (now sheet) ≡ sheetCount) ⌝ }
+    requires { ⌜ StreetAt (now entries) EB WB along × StreetAt (now entries) NB SB across ⌝ }
     ensures { λ _. ⌜ now (sheet .exit) ≡ sheetOf (now (entries .entry)) ⌝ }
 {
-    let along = sheet_street::street_at(entries, 0, 1);
-    let across = sheet_street::street_at(entries, 2, 3);
     let last = last_at(entries, along, across);
     lists::put(sheet, 0, entries);
     put_street(sheet, layout::LINES_FROM, along);
     put_street(sheet, layout::LINES_FROM + 2 * layout::LINES, across);
     put_rest(sheet, along.pair, across.pair, last);
+}
+
+// Writes the sheet of acceptable entries.
+pub fn write_fresh(entries: &[u32], sheet: &mut [u32])
+    requires { ⌜ (judged (now entries) ≡ Accepted) × (length (now sheet) ≡ sheetCount) ⌝ }
+    ensures { λ _. ⌜ now (sheet .exit) ≡ sheetOf (now (entries .entry)) ⌝ }
+{
+    let eb = sheet_street::lines_at(entries, 0, 1);
+    let wb = sheet_street::lines_at(entries, 1, 0);
+    let nb = sheet_street::lines_at(entries, 2, 3);
+    let sb = sheet_street::lines_at(entries, 3, 2);
+    let along = sheet_street::street_at(entries, 0, 1, eb, wb);
+    let across = sheet_street::street_at(entries, 2, 3, nb, sb);
+    put_sheet(entries, sheet, along, across);
 }
 
 // Fills the sheet from the entries; where either is refused, the sheet stays as it was.

@@ -6,10 +6,8 @@ ghost use lib.ListN.{length};
 ghost use Rattle.answers.specs.declared.Answer.the-variants.{Accepted};
 ghost use Rattle.layout.specs.Entries.{approachCount, entryCount};
 ghost use Rattle.entries.specs.Judging.{judged};
-ghost use Rattle.entries.specs.Layout.{cycle};
 ghost use Rattle.procedure.specs.Approach.{readApproach, isShared};
-ghost use Rattle.line_stages.specs.Stages.{linesOf};
-ghost use Rattle.sheet_street.specs.Street.{StreetAt};
+ghost use Rattle.sheet_street.specs.Street.{LinesAt, StreetAt};
 use line_stages::Lines;
 use sheet_pairs::Pair;
 
@@ -39,22 +37,21 @@ fn either_shares(entries: &[u32], a: usize, o: usize) -> bool
 }
 
 // The lines of an approach of acceptable entries, with o opposite it. Read here, the entries need not be handed on.
-fn lines_at(entries: &[u32], a: usize, o: usize) -> Lines
+pub fn lines_at(entries: &[u32], a: usize, o: usize) -> Lines
     requires { ⌜ (judged (now entries) ≡ Accepted) × (a < approachCount) × (o < approachCount) ⌝ }
-    ensures { λ r. ⌜ r ≡ linesOf (readApproach (now (entries .entry)) a) (readApproach (now (entries .entry)) o) (cycle (now (entries .entry))) ⌝ }
+    ensures { λ r. ⌜ LinesAt (now (entries .entry)) a o r ⌝ }
 {
     let s = procedure::read_approach(entries, a);
     let t = procedure::read_approach(entries, o);
     lines::lines_of(s, t, procedure::read_cycle(entries))
 }
 
-// The street of an approach and the one opposite it.
-pub fn street_at(entries: &[u32], a: usize, o: usize) -> Street
+// The street of an approach and the one opposite it, whose lines are worked out.
+pub fn street_at(entries: &[u32], a: usize, o: usize, one: Lines, other: Lines) -> Street
     requires { ⌜ (judged (now entries) ≡ Accepted) × (a < approachCount) × (o < approachCount) ⌝ }
+    requires { ⌜ LinesAt (now entries) a o one × LinesAt (now entries) o a other ⌝ }
     ensures { λ r. ⌜ StreetAt (now (entries .entry)) a o r ⌝ }
 {
-    let one = lines_at(entries, a, o);
-    let other = lines_at(entries, o, a);
     let pair = sheet_pairs::pair_of(either_shares(entries, a, o), one, other);
     Street { one, other, pair }
 }

@@ -1,78 +1,38 @@
--- The parts are put one after the other, each where the one before it ends; together they are the sheet.
-use Rattle.entries.proofs.Laws.{accepted-count}
-use Rattle.layout.specs.Entries.{entryCount}
-use Rattle.layout.specs.Sheet.{lastCells}
-use Rattle.line_stages.specs.Cells.{cellsOf}
-use Rattle.lists.proofs.Laws.{over-then, over-whole}
-use Rattle.sheet_pairs.specs.Cells.{pairCells}
-use Rattle.sheet_cells.proofs.Cells.{last-length}
-use Rattle.sheet.proofs.Laws.{sheet-assembled}
-use denote.Ref.{now}
 use lib.Dec.{lit<}
-use lib.ListN.{length, length-append}
-use mathlib.Core.List.{_++_}
-use mathlib.Core.Path.{_≡_, ap, _∙_}
-use native.Mathlib.Omega.{arith}
 use borrow.Author.Needs.{needs}
 use Rattle.sheet.proofs.write_fresh.Statement.{statement}
 use Rattle.sheet.proofs.write_fresh.Tie as tie
 
+lines-at-requires : tie.Need-lines-at-requires
+lines-at-requires c κs = (c .before .before .pre .0, lit< tt, lit< tt)
+
+lines-at-requires-2 : tie.Need-lines-at-requires-2
+lines-at-requires-2 c κs = (c .before .before .before .pre .0, lit< tt, lit< tt)
+
+lines-at-requires-3 : tie.Need-lines-at-requires-3
+lines-at-requires-3 c κs = (c .before .before .before .before .pre .0, lit< tt, lit< tt)
+
+lines-at-requires-4 : tie.Need-lines-at-requires-4
+lines-at-requires-4 c κs = (c .before .before .before .before .before .pre .0, lit< tt, lit< tt)
+
 street-at-requires : tie.Need-street-at-requires
-street-at-requires c κs = (c .before .before .pre .0, lit< tt, lit< tt)
+street-at-requires c κs =
+    ((c .before .before .before .before .before .before .pre .0, lit< tt, lit< tt), (c .before .before .before .lines-at .ensures, c .before .before .lines-at2 .ensures))
 
 street-at-requires-2 : tie.Need-street-at-requires-2
-street-at-requires-2 c κs = (c .before .before .before .pre .0, lit< tt, lit< tt)
+street-at-requires-2 c κs =
+    ((c .before .before .before .before .before .before .before .pre .0, lit< tt, lit< tt), (c .before .before .lines-at3 .ensures, c .before .lines-at4 .ensures))
 
-last-at-requires : tie.Need-last-at-requires
-last-at-requires c κs = (c .before .before .before .before .pre .0, c .before .street-at .ensures, c .street-at2 .ensures)
-
-put-requires : tie.Need-put-requires
-put-requires c κs =
-    let s = c .before .before .before .before .before .before in
-    omega (arith, s .pre .1, accepted-count _ (s .pre .0))
+put-sheet-requires : tie.Need-put-sheet-requires
+put-sheet-requires c κs =
+    let s = c .before .before .before .before .before .before .before .before .before in
+    (s .pre, (c .before .before .street-at .ensures, c .before .street-at2 .ensures))
 
 returns : tie.Need-returns
-returns c =
-    let rest = c .before .before in
-    let second = rest .before .before .before .before in
-    let first = second .before .before .before .before in
-    let entries = first .before .before .before .before in
-    let last = entries .before .before in
-    let two = last .before in
-    let one = two .before in
-    let s = one .before .before .before in
-    let d = now (s .args .sheet) in
-    let e = now (s .args .entries) in
-    let ew = one .street-at .ensures in
-    let ns = two .street-at2 .ensures in
-    let x = one .street-at .result in
-    let y = two .street-at2 .result in
-    let along = cellsOf (x .one) ++ cellsOf (x .other) in
-    let across = cellsOf (y .one) ++ cellsOf (y .other) in
-    let cells = pairCells (x .pair) ++ pairCells (y .pair) ++ last .last-at .result in
-    let long : length e ≡ entryCount = accepted-count e (s .pre .0) in
-    let short : length (last .last-at .result) ≡ lastCells = ap length (last .last-at .ensures) ∙ last-length e in
-    let pairs = pairCells (x .pair) ++ pairCells (y .pair) in
-    let size : length d ≡ length (e ++ along ++ across ++ cells) =
-    omega (
-      arith,
-      s .pre .1,
-      length-append (e ++ along ++ across) cells,
-      length-append (e ++ along) across,
-      length-append e along,
-      length-append pairs (last .last-at .result),
-    ) in
-    over-then d 0 (e ++ along ++ across) cells
-    (over-then d 0 (e ++ along) across
-    (over-then d 0 e along (entries .put .ensures) (first .put-street .ensures) (omega arith) (omega (arith, s .pre .1)))
-    (second .put-street2 .ensures) (omega (arith, length-append e along)) (omega (arith, s .pre .1)))
-    (rest .put-rest .ensures) (omega (arith, length-append (e ++ along) across, length-append e along))
-    (omega (arith, s .pre .1, length-append pairs (last .last-at .result)))
-    ∙ over-whole d (e ++ along ++ across ++ cells) size
-    ∙ sheet-assembled e (ew .first) (ew .second) (ns .first) (ns .second) (ew .pair) (ns .pair) (last .last-at .ensures)
+returns c = c .before .before .put-sheet .ensures
 
 pub write-fresh-spec : {M : Type 1} → statement M
 write-fresh-spec =
     tie.close
-    (tie.spec street-at-requires street-at-requires-2 last-at-requires put-requires (search needs) (search needs) (search needs)
-    (search needs) (search needs) (search needs) returns)
+    (tie.spec lines-at-requires lines-at-requires-2 lines-at-requires-3 lines-at-requires-4 street-at-requires street-at-requires-2
+    put-sheet-requires (search needs) returns)

@@ -1,4 +1,4 @@
--- Both approaches' lines are as promised; the pair's cells are those of the lines.
+-- The cells of both approaches' lines are the sheet's; the pair's cells are those of the lines.
 use Rattle.entries.specs.Layout.{cycle}
 use Rattle.entries.proofs.Laws.{accepted-count}
 use Rattle.procedure.specs.Approach.{readApproach}
@@ -13,38 +13,34 @@ use Rattle.sheet_street.proofs.street_at.Tie as tie
 
 either-shares-requires : tie.Need-either-shares-requires
 either-shares-requires c κs =
-    let s = c .before .before .before in
-    (accepted-count _ (s .pre .0), s .pre .1, s .pre .2)
+    let s = c .before in
+    (accepted-count _ (s .pre .0 .0), s .pre .0 .1, s .pre .0 .2)
 
 pair-of-requires : tie.Need-pair-of-requires
 pair-of-requires c κs =
-    let both = c .before in
-    let s = both .before .before .before in
+    let s = c .before .before in
     let e = now (s .args .entries) in
     let one = readApproach e (s .args .a) in
     let other = readApproach e (s .args .o) in
-    rw (both .before .lines-at .ensures, both .lines-at2 .ensures) (
-      rw (cells-are-lines one other (cycle e)) (bounded-lines _ _ _ (fair e (s .pre .0) (s .args .a) (s .pre .1)) (fair-cycle e (s .pre .0))),
-      rw (cells-are-lines other one (cycle e)) (bounded-lines _ _ _ (fair e (s .pre .0) (s .args .o) (s .pre .2)) (fair-cycle e (s .pre .0))),
+    rw (s .pre .1 .0, s .pre .1 .1) (
+      rw (cells-are-lines one other (cycle e)) (bounded-lines _ _ _ (fair e (s .pre .0 .0) (s .args .a) (s .pre .0 .1)) (fair-cycle e (s .pre .0 .0))),
+      rw (cells-are-lines other one (cycle e)) (bounded-lines _ _ _ (fair e (s .pre .0 .0) (s .args .o) (s .pre .0 .2)) (fair-cycle e (s .pre .0 .0))),
     )
 
 returns : tie.Need-returns
 unfolding linesAt pairAt
 returns c =
-    let both = c .before .before in
-    let s = both .before .before .before in
+    let s = c .before .before .before in
     let e = now (s .args .entries) in
     let one = readApproach e (s .args .a) in
     let other = readApproach e (s .args .o) in
     record {
-      first = rw (both .before .lines-at .ensures) (cells-are-lines one other (cycle e));
-      second = rw (both .lines-at2 .ensures) (cells-are-lines other one (cycle e));
+      first = rw (s .pre .1 .0) (cells-are-lines one other (cycle e));
+      second = rw (s .pre .1 .1) (cells-are-lines other one (cycle e));
       pair =
           rw (← cells-are-lines one other (cycle e), ← cells-are-lines other one (cycle e), ← c .before .either-shares .ensures)
-          (rw (both .before .lines-at .ensures, both .lines-at2 .ensures) at (c .pair-of .ensures));
+          (rw (s .pre .1 .0, s .pre .1 .1) at (c .pair-of .ensures));
     }
 
 pub street-at-spec : {M : Type 1} → statement M
-street-at-spec =
-    tie.close
-    (tie.spec (λ c. search needs) (λ c. search needs) either-shares-requires pair-of-requires returns)
+street-at-spec = tie.close (tie.spec either-shares-requires pair-of-requires returns)
