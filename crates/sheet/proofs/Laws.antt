@@ -1,8 +1,12 @@
 -- What the filling leans on: a street's times are small, and the parts make the whole sheet.
 use mathlib.Core.Path.{_≡_, refl}
 use mathlib.Core.List.{List, _++_, append-assoc}
-use Prim.Native.Nat.{ℕ, _+_, _<_}
+use Prim.Native.Nat.{ℕ, _+_, _*_, _<_}
 use lib.Dec.{eqb, lit<}
+use lib.ListN.{length, length-append}
+use native.Mathlib.Omega.{arith}
+use Rattle.layout.specs.Sheet.{pairCells as pairCellCount, lastCells}
+use Rattle.sheet_cells.proofs.Cells.{pair-length, last-length}
 use Rattle.answers.specs.declared.Answer.the-variants.{Accepted}
 use Rattle.layout.specs.Entries.{approachCount, EB, WB, NB, SB}
 use Rattle.entries.specs.Layout.{cycle}
@@ -17,7 +21,7 @@ use Rattle.sheet_pairs.specs.declared.Pair.{Pair}
 use Rattle.sheet_street.specs.declared.Street.{Street}
 use Rattle.sheet_street.specs.Street.{StreetAt}
 use Rattle.sheet_street.proofs.Laws.{Small, small}
-use Rattle.sheet.specs.Working.{SmallPair}
+use Rattle.sheet.specs.Working.{SmallPair, restAt}
 
 module _ (e : List ℕ) (ok : judged e ≡ Accepted) where
   pub small-at : (a o : ℕ) → a < approachCount → o < approachCount → Small (linesAt e a o) (linesAt e o a) (pairAt e a o)
@@ -28,6 +32,22 @@ module _ (e : List ℕ) (ok : judged e ≡ Accepted) where
   pub small-street : {a o : ℕ} {r : Street} → a < approachCount → o < approachCount → StreetAt e a o r
       → Small (cellsOf (r .one)) (cellsOf (r .other)) (pairCells (r .pair))
   small-street {a} {o} h k s = rw (s .first, s .second, s .pair) (small-at a o h k)
+
+pub rest-assembled : (e : List ℕ) {p q l : List ℕ} → p ≡ pairAt e EB WB → q ≡ pairAt e NB SB → l ≡ lastAt e → p ++ q ++ l ≡ restAt e
+rest-assembled e p q l = rw (p, q, l)
+
+-- how many cells stand after the lines
+pub rest-length : (e : List ℕ) → length (restAt e) ≡ 2 * pairCellCount + lastCells
+rest-length e =
+    let pairs = pairAt e EB WB ++ pairAt e NB SB in
+    omega (
+      arith,
+      length-append pairs (lastAt e),
+      length-append (pairAt e EB WB) (pairAt e NB SB),
+      pair-length e EB WB,
+      pair-length e NB SB,
+      last-length e,
+    )
 
 pub small-pair : {x y : List ℕ} (r : Pair) → Small x y (pairCells r) → SmallPair r
 small-pair r s = record { few = s .few; picked = s .picked }

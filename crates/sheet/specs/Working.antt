@@ -1,14 +1,18 @@
 -- What the filling knows on its way: right totals and pairs of a sheet's entries.
 use mathlib.Core.Path.{_≡_}
-use mathlib.Core.List.{List}
+use mathlib.Core.List.{List, _++_}
 use Prim.Native.Nat.{ℕ, _≤_}
 use Rattle.layout.specs.Entries.{EB, WB, NB, SB}
 use Rattle.procedure.specs.Pairs.{pickOf, pickedTime}
-use Rattle.procedure.specs.Sheet.{pairAt, rightAt}
+use Rattle.procedure.specs.Sheet.{pairAt, rightAt, lastAt}
 use Rattle.line_bounds.specs.Bounds.{mostPicked}
 use Rattle.sheet_pairs.specs.Cells.{pairCells}
 use Rattle.sheet_pairs.specs.declared.Pair.{Pair}
 use Rattle.sheet_totals.specs.declared.Rights.{Rights}
+
+-- the pairs' cells and the last eight
+abbrev pub restAt : List ℕ → List ℕ
+restAt e = pairAt e EB WB ++ pairAt e NB SB ++ lastAt e
 
 -- the four right totals
 pub record RightsAt (e : List ℕ) (r : Rights) : Type 0 where

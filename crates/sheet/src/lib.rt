@@ -15,7 +15,7 @@ ghost use Rattle.line_bounds.specs.Bounds.{mostPicked};
 ghost use Rattle.line_stages.specs.Cells.{cellsOf};
 ghost use Rattle.sheet_pairs.specs.Cells.{pairCells};
 ghost use Rattle.sheet_street.specs.Street.{StreetAt};
-ghost use Rattle.sheet.specs.Working.{RightsAt, SmallPair};
+ghost use Rattle.sheet.specs.Working.{RightsAt, SmallPair, restAt};
 ghost use Rattle.sheet.specs.Fill.{fillAnswer, filled};
 use answers::Answer;
 use kinds::FreeRight;
@@ -91,12 +91,22 @@ fn put_last(all: &mut [u32], at: usize, last: [u32; layout::LAST_CELLS])
 }
 
 // The lines of a street's approaches, one after the other.
-fn put_street(all: &mut [u32], at: usize, street: Street)
+fn put_both(all: &mut [u32], at: usize, one: Lines, other: Lines)
     requires { ⌜ at + 2 * lineCount ≤ length (now all) ⌝ }
-    ensures { λ _. ⌜ now (all .exit) ≡ over (now (all .entry)) at (cellsOf (street .one) ++ cellsOf (street .other)) ⌝ }
+    ensures { λ _. ⌜ now (all .exit) ≡ over (now (all .entry)) at (cellsOf one ++ cellsOf other) ⌝ }
 {
-    put_lines(all, at, street.one);
-    put_lines(all, at + layout::LINES, street.other);
+    put_lines(all, at, one);
+    put_lines(all, at + layout::LINES, other);
+}
+
+// The entries and all lines; put before the streets are made, they need not be kept.
+fn put_front(all: &mut [u32], entries: &[u32], eb: Lines, wb: Lines, nb: Lines, sb: Lines)
+    requires { ⌜ (length (now all) ≡ sheetCount) × (length (now entries) ≡ entryCount) ⌝ }
+    ensures { λ _. ⌜ now (all .exit) ≡ over (now (all .entry)) 0 (now (entries .entry) ++ (cellsOf eb ++ cellsOf wb) ++ (cellsOf nb ++ cellsOf sb)) ⌝ }
+{
+    lists::put(all, 0, entries);
+    put_both(all, layout::LINES_FROM, eb, wb);
+    put_both(all, layout::LINES_FROM + 2 * layout::LINES, nb, sb);
 }
 
 // The pairs' cells and the last.
@@ -109,17 +119,14 @@ fn put_rest(all: &mut [u32], along: Pair, across: Pair, last: [u32; layout::LAST
     put_last(all, layout::LAST_FROM, last);
 }
 
-// Writes the sheet of the two streets.
-fn put_sheet(entries: &[u32], sheet: &mut [u32], along: Street, across: Street)
-    requires { ⌜ (judged (now entries) ≡ Accepted) × (length (now sheet) ≡ sheetCount) ⌝ }
+// The pairs' cells and the last of the two streets.
+fn put_streets(entries: &[u32], all: &mut [u32], along: Street, across: Street)
+    requires { ⌜ (judged (now entries) ≡ Accepted) × (length (now all) ≡ sheetCount) ⌝ }
     requires { ⌜ StreetAt (now entries) EB WB along × StreetAt (now entries) NB SB across ⌝ }
-    ensures { λ _. ⌜ now (sheet .exit) ≡ sheetOf (now (entries .entry)) ⌝ }
+    ensures { λ _. ⌜ now (all .exit) ≡ over (now (all .entry)) pairsFrom (restAt (now (entries .entry))) ⌝ }
 {
     let last = last_at(entries, along, across);
-    lists::put(sheet, 0, entries);
-    put_street(sheet, layout::LINES_FROM, along);
-    put_street(sheet, layout::LINES_FROM + 2 * layout::LINES, across);
-    put_rest(sheet, along.pair, across.pair, last);
+    put_rest(all, along.pair, across.pair, last);
 }
 
 // Writes the sheet of acceptable entries.
@@ -131,9 +138,10 @@ pub fn write_fresh(entries: &[u32], sheet: &mut [u32])
     let wb = sheet_street::lines_at(entries, 1, 0);
     let nb = sheet_street::lines_at(entries, 2, 3);
     let sb = sheet_street::lines_at(entries, 3, 2);
+    put_front(sheet, entries, eb, wb, nb, sb);
     let along = sheet_street::street_at(entries, 0, 1, eb, wb);
     let across = sheet_street::street_at(entries, 2, 3, nb, sb);
-    put_sheet(entries, sheet, along, across);
+    put_streets(entries, sheet, along, across);
 }
 
 // Fills the sheet from the entries; where either is refused, the sheet stays as it was.
