@@ -1,3 +1,4 @@
+-- Two loops, over movements and over approaches, each turn a run that is judged like the first of its sort; the cycle ends it.
 use Rattle.entries.proofs.Laws.{range-ends, range-goes-on, range-stops, one-in-range, movements-alike, approaches-alike}
 use Rattle.entries.specs.Working.{allInRange}
 use Rattle.layout.specs.Entries.{approachCount, movementCount, movementEntries, approachesFrom, approachEntries, cycleEntry}

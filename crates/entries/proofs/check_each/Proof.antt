@@ -1,3 +1,4 @@
+-- A search from the first: no fault is left behind, and the first one found is answered.
 use Rattle.entries.proofs.Laws.{count-most}
 use Rattle.entries.specs.Judging.{refusalOf, countOf, faulty}
 use Rattle.answers.proofs.Laws.{Searched, accepts, refuses, search-starts, search-goes-on, search-stops, search-ends}

@@ -1,3 +1,4 @@
+-- The definition's cases in the code's order: no shared lane, left lanes beside it, no through lane.
 use Rattle.entries.specs.Judging.{badlyShared}
 use borrow.Author.Tests.{eq-eqb, ne-eqb, lt-ltb, le-ltb}
 use borrow.Author.Needs.{needs}

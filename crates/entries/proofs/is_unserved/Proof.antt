@@ -1,3 +1,4 @@
+-- The definition's cases in the code's order: no volume, lanes of its own, lanes of the other groups.
 use Prim.Native.Nat.{_<_}
 use Rattle.entries.specs.Judging.{unserved}
 use native.Mathlib.Omega.{arith}

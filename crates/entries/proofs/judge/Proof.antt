@@ -1,3 +1,4 @@
+-- Each check's answer is handed on where it refuses, and passed over where it accepts.
 use Rattle.entries.proofs.Laws.{size-accepted}
 use Rattle.entries.specs.Judging.{judged}
 use Rattle.answers.proofs.Laws.{handed-on, passed}

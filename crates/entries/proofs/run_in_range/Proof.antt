@@ -1,3 +1,4 @@
+-- Each turn takes one entry more, judged by the kind of its like; the first bad one stops the run.
 use Rattle.entries.proofs.Laws.{range-goes-on, range-stops, one-in-range}
 use Rattle.entries.specs.Working.{allInRange}
 use borrow.Author.Needs.{needs}

@@ -1,3 +1,4 @@
+-- Past the last fold it is 0; else each turn of the loop fades once more.
 use Rattle.line_decay.specs.Decay.{faded, decayNumber}
 use borrow.Author.Needs.{needs}
 use borrow.Author.Tests.{le-leb, lt-leb}

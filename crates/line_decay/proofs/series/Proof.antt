@@ -1,3 +1,4 @@
+-- Each turn of the loop takes one term off and adds the next, and stays between the last term and the whole.
 use Rattle.line_decay.proofs.Laws.{next-term, next-turn, summed}
 use Rattle.line_decay.specs.Decay.{term, turns}
 use borrow.Author.Needs.{needs}

@@ -1,3 +1,4 @@
+-- The products stay below 64 bits; without lanes it is 0, else the definition as it stands.
 use native.Mathlib.Omega.{arith}
 use borrow.Author.Tests.{eq-eqb, ne-eqb}
 use Rattle.procedure.specs.Lines.{flowOf}

@@ -1,3 +1,4 @@
+-- Each of lines 4–9 comes from its own function; what they ask for are laws of a fair approach.
 use Rattle.procedure.specs.Lines.{fT, flow}
 use Rattle.kinds.specs.declared.Group.the-variants.{Left, Through, Right}
 use lib.Dec.{lit≤}

@@ -1,3 +1,4 @@
+-- Without folded lefts line 4 is that of line 8's formula; else its products have room and its divisor is not 0.
 use Rattle.line_bounds.proofs.Flows.{turning-product, turning-quotient, turning-alike}
 use Rattle.procedure.specs.Lines.{turningT}
 use borrow.Author.Tests.{ne-eqb}

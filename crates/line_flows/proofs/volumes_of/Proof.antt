@@ -1,3 +1,4 @@
+-- What is folded is chosen, then added; the sums have room by the bounds of a fair approach's volumes.
 use mathlib.Core.Path.{_≡_}
 use native.Mathlib.Omega.{arith}
 use Rattle.procedure.specs.Lines.{a, b, volume, vST}

@@ -1,3 +1,4 @@
+-- The walkers' part is no more than what they take beyond the cars, so that every sum has room.
 use mathlib.Core.Path.{_≡_}
 use Rattle.kinds.specs.declared.Group.the-variants.{Through}
 use Rattle.kinds.specs.declared.Kind.the-variants.{PedestrianTime}

@@ -1,3 +1,4 @@
+-- The definition's five conditions, one return for each that fails and one where all hold.
 use borrow.Author.Tests.{eq-eqb, ne-eqb}
 use Rattle.procedure.specs.Lines.{single}
 use Rattle.line_meeting.proofs.is_single.Statement.{statement}

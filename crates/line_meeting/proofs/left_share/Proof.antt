@@ -1,3 +1,4 @@
+-- A single approach folds its lefts and has some, so the divisor is not 0; any other has no share.
 use native.Mathlib.Omega.{arith}
 use Prim.Native.Nat.{_<_}
 use mathlib.Core.Bool.{true, false}

@@ -1,3 +1,4 @@
+-- The lane of lefts alone carries its volume by the law of line 22; then it is the formula of line 23.
 use Rattle.line_bounds.specs.Bounds.{mostVolume}
 use Rattle.line_bounds.proofs.Numbers.{shared-out}
 use Rattle.line_bounds.proofs.LeftLane.{Carries, carries, equivalent-room}

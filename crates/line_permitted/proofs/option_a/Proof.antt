@@ -1,3 +1,4 @@
+-- Not allowed, it is BLANK; else the T and the L value by their functions, whose needs are laws of the approach.
 use native.Mathlib.Omega.{arith}
 use mathlib.Core.Bool.{true, false}
 use mathlib.Core.Path.{_≡_}

@@ -1,3 +1,4 @@
+-- Where the heaviest lane is the slower one its time is the larger; else the larger of both is taken.
 use Rattle.procedure.specs.Lines.{optionAOf}
 use Rattle.line_bounds.specs.Bounds.{mostMixedServed}
 use Rattle.line_bounds.proofs.Times.{time-most}

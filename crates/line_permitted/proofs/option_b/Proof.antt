@@ -1,3 +1,4 @@
+-- Not allowed, it is BLANK; else the larger of its halves, whose needs are laws of the approach.
 use borrow.Author.Tests.{not-true, not-false}
 use Rattle.kinds.specs.declared.Group.the-variants.{Through}
 use Rattle.procedure.specs.Lines.{optionB}

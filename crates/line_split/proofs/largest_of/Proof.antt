@@ -1,3 +1,4 @@
+-- Without folded lefts line 27 is the larger reference time by a law; else the three parts as defined.
 use Rattle.line_split.proofs.Laws.{line27-alike}
 use Rattle.procedure.specs.Lines.{b, line27}
 use Rattle.kinds.specs.declared.Group.the-variants.{Through}

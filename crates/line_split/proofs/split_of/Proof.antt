@@ -1,3 +1,4 @@
+-- An approach without volume has 0; any other weighs line 27, which a law keeps small.
 use native.Mathlib.Omega.{arith}
 use mathlib.Core.Path.{_≡_}
 use borrow.Author.Tests.{eq-eqb}

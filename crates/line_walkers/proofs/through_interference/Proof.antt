@@ -1,3 +1,4 @@
+-- The definition's cases in the code's order: right lanes, nobody in the way, else the rights' share of G.
 use mathlib.Core.Path.{_≡_, sym}
 use borrow.Author.Tests.{eq-eqb, ne-eqb, lt-ltb}
 use native.Mathlib.Omega.{arith}

@@ -1,3 +1,4 @@
+-- A refusal of the size or of the entries is handed on and the sheet kept; accepted, it is written afresh.
 use Rattle.sheet_cells.proofs.Cells.{sheet-accepted}
 use Rattle.sheet.specs.Fill.{fillAnswer, filled}
 use Rattle.procedure.specs.Sheet.{sheet}

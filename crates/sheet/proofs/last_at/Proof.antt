@@ -1,3 +1,4 @@
+-- The right totals, the picked times and the cycle are those of the streets; their sums are small by a street's laws.
 use Rattle.procedure.proofs.Fair.{fair-cycle}
 use Rattle.entries.proofs.Laws.{accepted-count}
 use Rattle.sheet.proofs.Laws.{small-street, small-pair, last-assembled}

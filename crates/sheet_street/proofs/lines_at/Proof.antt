@@ -1,3 +1,4 @@
+-- Acceptable entries make fair approaches and a fair cycle; the lines of those are the promise.
 use Rattle.procedure.proofs.Fair.{fair, fair-cycle}
 use Rattle.entries.proofs.Laws.{accepted-count}
 use denote.Ref.{now}
