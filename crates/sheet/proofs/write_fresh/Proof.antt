@@ -35,9 +35,10 @@ put-front-requires c κs =
 
 street-at-requires : tie.Need-street-at-requires
 street-at-requires c κs =
-    let four = c .before .before .before .before in
-    ((four .before .before .before .before .before .before .pre .0, lit< tt, lit< tt),
-    (four .before .before .before .lines-at .ensures, four .before .before .lines-at2 .ensures))
+    let four = c .before .before .before .before in (
+      (four .before .before .before .before .before .before .pre .0, lit< tt, lit< tt),
+      (four .before .before .before .lines-at .ensures, four .before .before .lines-at2 .ensures),
+    )
 
 street-at-requires-2 : tie.Need-street-at-requires-2
 street-at-requires-2 c κs =
