@@ -10,9 +10,9 @@ structs and enums that the code declares count where a definition names them. Bl
 The theorem file speaks of some definitions more (runs of amendments, K1 to K10, what fair means): those are counted by themselves.
 All others are working definitions and stand in files of their own: specs/Working.antt, or a file whose first line says so.
 
---list   names every definition, by what it serves
 The layout is exempt: it names every cell, also those that only proofs and programs ask for.
 
+--list   names every definition, by what it serves
 --check  exits with 1 where a promise reaches a working definition, or a definition that serves neither a promise nor a theorem
          stands among those that do
 """
