@@ -1,0 +1,99 @@
+-- The calls of the library themselves. Of each: it keeps its promise, as the check proved it of its code; and its promise is the
+-- definition in crates/icu/specs/Calls.antt, word for word, so that a promise that said less would break this file.
+use mathlib.Core.Path.{_≡_, refl}
+use contract.Lifetimes.{Lfts}
+use contract.Notation.{connectives}
+use denote.Ref.{now}
+use denote.Triple.Clauses.{AtExit}
+use borrow.Fn.World.{World, ArgsD, ResD, Pr}
+use Rattle.icu.specs.Calls.{fillAllows, amendAllows, checkAllows, countAllows, siteAllows, writeAllows, listAllows}
+use Rattle.icu.proofs.icu_fill as fill
+use Rattle.icu.proofs.icu_fill.Statement as fill-stated
+use Rattle.icu.proofs.icu_fill.Reads as fill-reads
+use Rattle.icu.proofs.icu_fill.Met as fill-met
+use Rattle.icu.proofs.icu_amend as amend
+use Rattle.icu.proofs.icu_amend.Statement as amend-stated
+use Rattle.icu.proofs.icu_amend.Reads as amend-reads
+use Rattle.icu.proofs.icu_amend.Met as amend-met
+use Rattle.icu.proofs.icu_study_check as check
+use Rattle.icu.proofs.icu_study_check.Statement as check-stated
+use Rattle.icu.proofs.icu_study_check.Reads as check-reads
+use Rattle.icu.proofs.icu_study_check.Met as check-met
+use Rattle.icu.proofs.icu_study_count as count
+use Rattle.icu.proofs.icu_study_count.Statement as count-stated
+use Rattle.icu.proofs.icu_study_count.Reads as count-reads
+use Rattle.icu.proofs.icu_study_count.Met as count-met
+use Rattle.icu.proofs.icu_study_site as site
+use Rattle.icu.proofs.icu_study_site.Statement as site-stated
+use Rattle.icu.proofs.icu_study_site.Reads as site-reads
+use Rattle.icu.proofs.icu_study_site.Met as site-met
+use Rattle.icu.proofs.icu_study_write as write
+use Rattle.icu.proofs.icu_study_write.Statement as write-stated
+use Rattle.icu.proofs.icu_study_write.Reads as write-reads
+use Rattle.icu.proofs.icu_study_write.Met as write-met
+use Rattle.icu.proofs.icu_study_list as list
+use Rattle.icu.proofs.icu_study_list.Statement as list-stated
+use Rattle.icu.proofs.icu_study_list.Reads as list-reads
+use Rattle.icu.proofs.icu_study_list.Met as list-met
+
+-- a clause of a promise says this fact and nothing else
+abbrev Exactly : (w : World) → Pr w → Type 0 → Type 2
+Exactly w clause fact = clause ≡ connectives (w .𝓤) .⌜_⌝ fact
+
+pub fill-keeps : {M : Type 1} → fill-stated.statement M
+fill-keeps = fill-met.met
+
+-- a: what the call is given, r: what it answers, s: what it leaves
+pub fill-promises :
+    (κs : Lfts 2) (a : ArgsD fill.signature κs) (r : ResD fill.signature κs) (s : AtExit fill.ended κs) (w : World)
+    → Exactly w (fill-reads.ensures κs a tt r s w) (fillAllows (now (a .0)) (now (a .1 .0)) r (now (s .1 .0)))
+fill-promises κs a r s w = refl
+
+pub amend-keeps : {M : Type 1} → amend-stated.statement M
+amend-keeps = amend-met.met
+
+pub amend-promises :
+    (κs : Lfts 1) (a : ArgsD amend.signature κs) (r : ResD amend.signature κs) (s : AtExit amend.ended κs) (w : World)
+    → Exactly w (amend-reads.ensures κs a tt r s w) (amendAllows (now (a .0)) (a .1 .0) (a .1 .1 .0) r (now (s .0)))
+amend-promises κs a r s w = refl
+
+pub check-keeps : {M : Type 1} → check-stated.statement M
+check-keeps = check-met.met
+
+pub check-promises :
+    (κs : Lfts 1) (a : ArgsD check.signature κs) (r : ResD check.signature κs) (s : AtExit check.ended κs) (w : World)
+    → Exactly w (check-reads.ensures κs a tt r s w) (checkAllows (now (a .0)) r)
+check-promises κs a r s w = refl
+
+pub count-keeps : {M : Type 1} → count-stated.statement M
+count-keeps = count-met.met
+
+pub count-promises :
+    (κs : Lfts 1) (a : ArgsD count.signature κs) (r : ResD count.signature κs) (s : AtExit count.ended κs) (w : World)
+    → Exactly w (count-reads.ensures κs a tt r s w) (countAllows (now (a .0)) r)
+count-promises κs a r s w = refl
+
+pub site-keeps : {M : Type 1} → site-stated.statement M
+site-keeps = site-met.met
+
+pub site-promises :
+    (κs : Lfts 2) (a : ArgsD site.signature κs) (r : ResD site.signature κs) (s : AtExit site.ended κs) (w : World)
+    → Exactly w (site-reads.ensures κs a tt r s w) (siteAllows (now (a .0)) (a .1 .0) (now (a .1 .1 .0)) r (now (s .1 .1 .0)))
+site-promises κs a r s w = refl
+
+pub write-keeps : {M : Type 1} → write-stated.statement M
+write-keeps = write-met.met
+
+pub write-promises :
+    (κs : Lfts 2) (a : ArgsD write.signature κs) (r : ResD write.signature κs) (s : AtExit write.ended κs) (w : World)
+    → Exactly w (write-reads.ensures κs a tt r s w) (writeAllows (now (a .0)) (now (a .1 .0)) r (now (s .1 .0)))
+write-promises κs a r s w = refl
+
+pub list-keeps : {M : Type 1} → list-stated.statement M
+list-keeps = list-met.met
+
+pub list-promises :
+    (κs : Lfts 3) (a : ArgsD list.signature κs) (r : ResD list.signature κs) (s : AtExit list.ended κs) (w : World)
+    → Exactly w (list-reads.ensures κs a tt r s w)
+      (listAllows (now (a .0)) (now (a .1 .0)) (now (a .1 .1 .0)) r (now (s .1 .0)) (now (s .1 .1 .0)))
+list-promises κs a r s w = refl

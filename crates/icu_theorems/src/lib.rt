@@ -1,0 +1,1 @@
+// The theorems that everything else serves, in proofs/Theorems.antt.
