@@ -123,7 +123,7 @@ IcuAnswer icu_amend(uint32_t *sheet, size_t len, uint32_t entry, uint32_t value)
 #define ICU_FILE_BYTES(k) (8 + 328 * (k))
 
 /* Room enough for any listing. */
-#define ICU_LIST_BYTES 4096
+#define ICU_LIST_BYTES 6120
 
 /*
  * Says whether the file is well laid out.

@@ -95,5 +95,5 @@ list-keeps = list-met.met
 pub list-promises :
     (κs : Lfts 3) (a : ArgsD list.signature κs) (r : ResD list.signature κs) (s : AtExit list.ended κs) (w : World)
     → Exactly w (list-reads.ensures κs a tt r s w)
-      (listAllows (now (a .0)) (now (a .1 .0)) (now (a .1 .1 .0)) r (now (s .1 .0)) (now (s .1 .1 .0)))
+    (listAllows (now (a .0)) (now (a .1 .0)) (now (a .1 .1 .0)) r (now (s .1 .0)) (now (s .1 .1 .0)))
 list-promises κs a r s w = refl

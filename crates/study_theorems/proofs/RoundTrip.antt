@@ -6,8 +6,8 @@ use mathlib.Core.List.{List, [], _∷_, _++_}
 use lib.ListN.{length, getD, take, drop, length-append, length-drop, take-append-drop, List·getD-append}
 use lib.Seq.{getD-append-add, getD-take, getD-drop, length-take-le, take-all, ext-getD}
 use lib.Dec.{ltb, eqb}
-use borrow.Author.Tests.{ltb-false, lt-leb, eqb-true, eq-eqb, not-false}
-use native.Mathlib.Nat.{mul-le-mul-left, mul-div-cancel-left}
+use borrow.Author.Tests.{ltb-false, le-ltb, lt-leb, eqb-true, eq-eqb, not-false}
+use native.Mathlib.Nat.{mul-le-mul-left, mul-div-cancel-left, mul-mod-right}
 use native.Mathlib.Omega.{arith}
 use Rattle.lists.specs.Lists.{AllBelow, table, over}
 use Rattle.lists.proofs.Laws.{length-table, table-at, table-join, table-same, front-over}
@@ -22,6 +22,7 @@ use Rattle.answers.proofs.Laws.{both-accepted, not-refused}
 use Rattle.study_format.specs.declared.Format.{Format}
 use Rattle.study_format.specs.Format.{countPlace, roomPlace, sitesOf, offsetPlace, startsWith, blockBytes, blockPlace, fileBytes}
 use Rattle.study_format.specs.Format.{judgement, countOf, siteAnswer, siteBlock, siteEntries, entriesUpTo, sitesIn, writeAnswer, offsets, fileOf}
+use Rattle.study_format.specs.Format.{siteEntriesAnswer}
 use Rattle.study_format.specs.Working.{Modest}
 use Rattle.study_format.proofs.Laws.{WellLaidOut, accepted, laid-out, places-fit}
 use Rattle.study_writer.proofs.Laws.{whole-sites}
@@ -263,3 +264,22 @@ read-written f ok bytes small e =
     let opened : take countPlace bytes ≡ f .opening = rw (ok .opens) at (starts-with bytes (f .opening) (laid .opened)) in
     let k-sites = sites-in f ok (entriesUpTo f bytes k) k l in
     simp e (rw (k-sites, fields-are f bytes laid, back) (ap (λ front. front ++ rest) (sym opened) ∙ take-append-drop countPlace bytes))
+
+module _ (f : Format) (ok : Modest f) (bytes : List ℕ) (good : judgement f bytes ≡ Accepted) where
+  -- each site of a good file is given to whoever has room for its entries
+  pub site-given : (site room : ℕ) → site < countOf f bytes → room ≡ f .entries → siteEntriesAnswer f bytes site room ≡ Accepted
+  site-given site room there sized =
+      let below : site < sitesOf bytes = rw good at there in
+      simp (eq-eqb room (f .entries) sized, good, lt-leb (sitesOf bytes) site below)
+
+  -- and its sites' entries are accepted for writing wherever there is room for it
+  pub accepted-again : (room : ℕ) → length bytes ≤ room → writeAnswer f (entriesUpTo f bytes (countOf f bytes)) room ≡ Accepted
+  accepted-again room fits =
+      let laid = accepted f bytes good in
+      let k = sitesOf bytes in
+      let e = entriesUpTo f bytes k in
+      let l : length e ≡ f .entries * k = ap length (entries-are f bytes laid k) ∙ length-table _ (f .entries * k) in
+      let whole : length e % f .entries ≡ 0 = ap (λ n. n % f .entries) l ∙ mul-mod-right (f .entries) k in
+      let sites = sites-in f ok e k l in
+      rw good
+      (simp (eq-eqb (length e % f .entries) 0 whole, sites, le-ltb (f .most) k (laid .few), le-ltb room (fileBytes f k) (omega (arith, laid .size))))
