@@ -1,0 +1,140 @@
+-- The demands of what the calls allow, from the laws of the definitions: an answer told as accepted was, and so what is left is new.
+use mathlib.Core.Path.{_≡_, refl, sym, _∙_, ap}
+use mathlib.Core.Bool.{false, cond, or-false}
+use mathlib.Core.List.{List, [], _∷_}
+use Prim.Native.Nat.{ℕ, _<_, _≤_, _*_}
+use native.Mathlib.Omega.{arith}
+use lib.ListN.{length, getD, set, take}
+use borrow.Author.Tests.{eqb-true, eq-eqb, not-false}
+use lib.Dec.{eqb}
+use Rattle.answers.specs.Answers.{_then_, left-by}
+use Rattle.answers.specs.declared.Refusal.the-variants.{Size}
+use Rattle.answers.specs.declared.Answer.{Answer}
+use Rattle.answers.specs.declared.Answer.the-variants.{Accepted, Refused}
+use Rattle.answers.proofs.Laws.{both-accepted, renewed, not-refused}
+use Rattle.layout.specs.Entries.{entryCount}
+use Rattle.layout.specs.Sheet.{sheetCount}
+use Rattle.entries.specs.Judging.{judged}
+use Rattle.procedure.specs.Sheet.{sheet}
+use Rattle.sheet_cells.specs.Cells.{sheetAnswer}
+use Rattle.sheet_cells.proofs.Cells.{sheet-accepted, sheet-entries}
+use Rattle.entries.proofs.Laws.{accepted-count}
+use Rattle.sheet.specs.Fill.{fillAnswer, filled}
+use Rattle.amend_reach.specs.Reach.{reached}
+use Rattle.amend_sets.specs.Amend.{Change, one, amendAnswer, amended, amendedBy, entriesBy, reachedBy, someReaches, entriesWith, withChanges}
+use Rattle.amend_sets.specs.Amend.{togetherAnswer, amendedTogether}
+use Rattle.amend_sets.proofs.Together.{taken, all-cells, amended-is-fresh}
+use Rattle.amend_sets.proofs.Runs.{run-is-fresh, run-keeps}
+use Rattle.lists.specs.Lists.{AllBelow, over}
+use Rattle.study_numbers.specs.Numbers.{numberLimit, byteLimit}
+use Rattle.study.specs.Study.{judgement, countOf, siteEntriesAnswer, siteEntries, writeAnswer, fileOf, fileBytes, sitesIn, entriesUpTo}
+use Rattle.study_theorems.proofs.Study as studies
+use Rattle.study_listing.specs.Listing.{listing, listAnswer}
+use Rattle.icu.specs.declared.IcuAnswer.{IcuAnswer}
+use Rattle.icu.specs.Told.{told}
+use Rattle.icu.specs.Calls.{fillAllows, amendAllows, siteAllows, writeAllows, listAllows}
+use Rattle.icu_theorems.specs.Outcomes.{Yes, No, Run, GivenAgain}
+use Rattle.icu_theorems.proofs.Told.{told-yes, told-no, told-new}
+
+-- refused
+
+module _ {said : IcuAnswer} {left : List ℕ} where
+  pub refused-fill : (e d : List ℕ) → fillAllows e d said left → No said → left ≡ d
+  unfolding filled
+  refused-fill e d allowed = told-no (fillAnswer e d) (sheet e) d (allowed .0) (allowed .1)
+
+  pub refused-amendment : (d : List ℕ) (i v : ℕ) → amendAllows d i v said left → No said → left ≡ d
+  unfolding amendAnswer amended amendedTogether
+  refused-amendment d i v allowed = told-no (togetherAnswer d (one i v)) _ d (allowed .0) (allowed .1)
+
+  pub refused-site : (f : List ℕ) (s : ℕ) (old : List ℕ) → siteAllows f s old said left → No said → left ≡ old
+  refused-site f s old allowed = told-no (siteEntriesAnswer f s (length old)) (siteEntries f s) old (allowed .0) (allowed .1)
+
+  pub refused-writing : (e old : List ℕ) → writeAllows e old said left → No said → left ≡ old
+  refused-writing e old allowed = told-no (writeAnswer e (length old)) (over old 0 (fileOf e)) old (allowed .0) (allowed .1)
+
+  pub refused-listing : (f old : List ℕ) (before : ℕ) {n : ℕ} → listAllows f old before said left n → No said → (left ≡ old) × (n ≡ before)
+  refused-listing f old before allowed refused =
+      let answer = listAnswer f (length old) in
+      let is = allowed .0 .0 in
+      (told-no answer (over old 0 (listing f)) old is (allowed .0 .1) refused, told-no answer (length (listing f)) before is (allowed .1) refused)
+
+-- a fill
+
+fill-accepted : {said : IcuAnswer} {left : List ℕ} (e d : List ℕ) → fillAllows e d said left → Yes said → fillAnswer e d ≡ Accepted
+fill-accepted e d allowed = told-yes (fillAnswer e d) (allowed .0)
+
+pub acceptable-only : {said : IcuAnswer} {left : List ℕ} (e d : List ℕ) → fillAllows e d said left → Yes said → (judged e ≡ Accepted) × (length d ≡ sheetCount)
+unfolding fillAnswer
+acceptable-only e d allowed is =
+    let both = both-accepted (sheetAnswer d) (judged e) (fill-accepted e d allowed is) in
+    (both .1, sheet-accepted d (both .0))
+
+answer-accepted : (e d : List ℕ) → judged e ≡ Accepted → length d ≡ sheetCount → fillAnswer e d ≡ Accepted
+unfolding fillAnswer sheetAnswer
+answer-accepted e d ok sized = rw (eq-eqb (length d) sheetCount sized) ok
+
+pub accepted-fill : {said : IcuAnswer} {left : List ℕ} (e d : List ℕ) → fillAllows e d said left → judged e ≡ Accepted → length d ≡ sheetCount → Yes said
+accepted-fill e d allowed ok sized = rw (allowed .0, answer-accepted e d ok sized)
+
+pub filled-sheet : {said : IcuAnswer} {left : List ℕ} (e d : List ℕ) → fillAllows e d said left → Yes said → left ≡ sheet e
+unfolding filled
+filled-sheet e d allowed is = allowed .1 ∙ sym (renewed (sheet e) d (fill-accepted e d allowed is))
+
+-- an amendment
+
+pub amendment :
+    {said two : IcuAnswer} {before after : List ℕ} (e d : List ℕ) (i v : ℕ)
+    → fillAllows e d said before → Yes said → amendAllows before i v two after → Yes two → fillAllows (set e i v) d said after
+unfolding filled entriesWith withChanges amendAnswer
+amendment {before = before} {after = after} e d i v fills is amends granted =
+    let ok = acceptable-only e d fills is in
+    let old = filled-sheet e d fills is in
+    let accepted : amendAnswer (sheet e) i v ≡ Accepted = rw old at (told-yes (amendAnswer before i v) (amends .0) granted) in
+    let judged-so : judged (set e i v) ≡ Accepted =
+    rw (sheet-entries e (accepted-count e (ok .0))) at (taken (sheet e) (one i v) accepted .fine) in
+    let new : after ≡ sheet (set e i v) = rw old at (amends .1) ∙ amended-is-fresh e (ok .0) i v accepted in
+    let fresh = answer-accepted (set e i v) d judged-so (ok .1) in
+    (fills .0 ∙ rw (fill-accepted e d fills is, fresh) refl, new ∙ renewed (sheet (set e i v)) d fresh)
+
+pub amendment-on-any-sheet :
+    {said : IcuAnswer} {after : List ℕ} (d : List ℕ) (i v k : ℕ) → amendAllows d i v said after → Yes said → k < length d
+    → getD after k 0 ≡ cond (reached i k) (getD (sheet (set (take entryCount d) i v)) k 0) (getD d k 0)
+unfolding amendAnswer amended someReaches entriesWith withChanges
+amendment-on-any-sheet d i v k allowed is h =
+    rw (allowed .1) (all-cells d (one i v) (told-yes _ (allowed .0) is) k h ∙ rw (or-false (reached i k)))
+
+-- a run of amendments
+
+run-leaves : (run : List Change) (d after : List ℕ) → Run run d after → after ≡ amendedBy run d
+unfolding Run amendedBy
+run-leaves [] d after done = done
+run-leaves (c ∷ run) d after step = rw (step .allowed .1) at (run-leaves run (step .left) after (step .goes-on))
+
+pub run-of-amendments : (run : List Change) (e after : List ℕ) → judged e ≡ Accepted → Run run (sheet e) after → after ≡ sheet (entriesBy run e)
+run-of-amendments run e after ok steps = run-leaves run (sheet e) after steps ∙ run-is-fresh run e ok
+
+pub outside-the-reach :
+    (run : List Change) (d after : List ℕ) (k : ℕ) → Run run d after → k < length d → reachedBy run d k ≡ false → getD after k 0 ≡ getD d k 0
+outside-the-reach run d after k steps h out = rw (run-leaves run d after steps) (run-keeps run d k h out)
+
+-- study files
+
+pub written-and-read :
+    {said : IcuAnswer} {left : List ℕ} (e old : List ℕ) → AllBelow numberLimit e → writeAllows e old said left → Yes said
+    → studies.ReadBack e (take (fileBytes (sitesIn e)) left)
+written-and-read e old small allowed is =
+    let accepted = told-yes (writeAnswer e (length old)) (allowed .0) is in
+    let leaves = allowed .1 ∙ sym (renewed (over old 0 (fileOf e)) old accepted) in
+    rw leaves (studies.written-read e old small accepted)
+
+pub read-and-written : (file : List ℕ) → AllBelow byteLimit file → judgement file ≡ Accepted → GivenAgain file
+read-and-written file small good =
+    record {
+      given = λ s h old sized allowed.
+          told-new (siteEntries file s) old (allowed .0) (allowed .1) (studies.site-given file s (length old) good h sized);
+      written = λ old room allowed.
+          let accepted = studies.accepted-again file (length old) good room in
+          let same = told-new (over old 0 (fileOf (entriesUpTo file (countOf file)))) old (allowed .0) (allowed .1) accepted in
+          (same .0, rw (studies.read-written file small good) at (same .1));
+    }

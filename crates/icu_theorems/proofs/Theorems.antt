@@ -1,0 +1,216 @@
+-- The theorems that everything else serves, each with the name of its proof.
+--
+-- What a call of the library answers and leaves is what a definition in crates/icu/specs/Calls.antt allows it: `fillAllows e d one
+-- left` says that `icu_fill`, given the entries e and a sheet that holds d, may answer `one` and leave `left`. Calls.antt, beside
+-- this file, shows it of the calls themselves: each keeps its promise, and its promise is that definition, word for word.
+use mathlib.Core.Path.{_≡_, refl, sym, _∙_, ap}
+use mathlib.Core.Bool.{false, cond}
+use mathlib.Core.List.{List, [], _∷_, map, replicate}
+use mathlib.Core.List.{length as size}
+use Prim.Native.Nat.{ℕ, _<_, _≤_, _*_}
+use lib.ListN.{length, getD, set, take}
+use Rattle.answers.specs.Answers.{_then_}
+use Rattle.answers.specs.declared.Refusal.{Refusal}
+use Rattle.answers.specs.declared.Answer.the-variants.{Accepted, Refused}
+use Rattle.layout.specs.Entries.{approachCount, entryCount}
+use Rattle.layout.specs.Sheet.{BLANK, sheetCount}
+use Rattle.entries.specs.Judging.{judged}
+use Rattle.procedure.specs.declared.Approach.{Approach}
+use Rattle.procedure.specs.Ranges.{Fair, FairCycle}
+use Rattle.procedure.specs.Sheet.{sheet}
+use Rattle.procedure.specs.Junctions.{workedOut, given}
+use Rattle.procedure.proofs.Compared.{compared}
+use Rattle.line_bounds.proofs.Permitted.{Refused as BlankMeans, lines-refused}
+use Rattle.sheet_cells.specs.Cells.{sheetAnswer}
+use Rattle.sheet.proofs.Fits.{sheet-fits}
+use Rattle.sheet.proofs.PairBlank.{PairBlank, pair-blank}
+use Rattle.amend_reach.specs.Reach.{reached}
+use Rattle.amend_sets.specs.Amend.{Change, withChanges, entriesWith, entryAnswer, togetherAnswer, someReaches, amendedTogether}
+use Rattle.amend_sets.specs.Amend.{amendAnswer, entriesBy, reachedBy}
+use Rattle.amend_sets.proofs.Together.{all-stays, all-cells, all-fresh, one-answer}
+use Rattle.lists.specs.Lists.{AllBelow}
+use Rattle.study_numbers.specs.Numbers.{numberLimit, byteLimit}
+use Rattle.study.specs.Study.{judgement, fileBytes, sitesIn}
+use Rattle.study_theorems.proofs.Study as studies
+use Rattle.study_listing.specs.Listing.{listing}
+use Rattle.study_listing.proofs.Laws.{length-listing}
+use Rattle.text_scan.specs.Scanning.{parsed}
+use Rattle.text_reader.specs.Reader.{reading, keptUnlessRead}
+use Rattle.text_reader.specs.declared.Reading.{Reading}
+use Rattle.text_reader.specs.declared.Reading.the-variants.{Read, Misread, Refused as NotAccepted}
+use Rattle.text_writer.specs.Writer.{junctionText}
+use Rattle.text_theorems.proofs.RoundTrip as texts
+use Rattle.page_form.proofs.Places.{OnPage, on-page}
+use Rattle.icu.specs.declared.IcuAnswer.{IcuAnswer}
+use Rattle.icu.specs.Calls.{fillAllows, amendAllows, siteAllows, writeAllows, listAllows, checkAllows, countAllows, Allowed}
+use Rattle.icu_theorems.specs.Outcomes.{Yes, No, toCompare, Run, GivenAgain}
+use Rattle.icu_theorems.proofs.Junctions.{acceptable}
+use Rattle.icu_theorems.proofs.Outcomes as outcomes
+
+-- ANY TWO OUTCOMES of a call that its promise allows agree: its answer, and whatever it leaves in what it was lent.
+pub agree :
+    {A B : Type 0} {answer : A} {after : B} {one other : A} {left right : B}
+    → Allowed answer after one left → Allowed answer after other right → (one ≡ other) × (left ≡ right)
+agree p q = (p .0 ∙ sym (q .0), p .1 ∙ sym (q .1))
+
+module _ {one other : IcuAnswer} {left right : List ℕ} where
+  pub fill-agrees : (e d : List ℕ) → fillAllows e d one left → fillAllows e d other right → (one ≡ other) × (left ≡ right)
+  fill-agrees e d = agree
+
+  pub amend-agrees : (d : List ℕ) (i v : ℕ) → amendAllows d i v one left → amendAllows d i v other right → (one ≡ other) × (left ≡ right)
+  amend-agrees d i v = agree
+
+  pub site-agrees : (f : List ℕ) (s : ℕ) (old : List ℕ) → siteAllows f s old one left → siteAllows f s old other right → (one ≡ other) × (left ≡ right)
+  site-agrees f s old = agree
+
+  pub write-agrees : (e old : List ℕ) → writeAllows e old one left → writeAllows e old other right → (one ≡ other) × (left ≡ right)
+  write-agrees e old = agree
+
+  pub list-agrees :
+      (f old : List ℕ) (before : ℕ) {n m : ℕ} → listAllows f old before one left n → listAllows f old before other right m
+      → ((one ≡ other) × (left ≡ right)) × (n ≡ m)
+  list-agrees f old before p q = (agree (p .0) (q .0), p .1 ∙ sym (q .1))
+
+pub check-agrees : {one other : IcuAnswer} (f : List ℕ) → checkAllows f one → checkAllows f other → one ≡ other
+check-agrees f p q = p ∙ sym q
+
+pub count-agrees : (f : List ℕ) {n m : ℕ} → countAllows f n → countAllows f m → n ≡ m
+count-agrees f p q = p ∙ sym q
+
+-- DEMAND 1. Every call finishes and asks nothing of its caller: the check proves that of every function, and no call of the
+-- crate icu has a `requires`. A refusal comes exactly when the table says: the answers are the definitions' `fillAnswer`,
+-- `amendAnswer`, `judgement`, `siteEntriesAnswer`, `writeAnswer` and `listAnswer`. And a refusal alters nothing:
+module _ {one : IcuAnswer} {left : List ℕ} where
+  pub refused-fill : (e d : List ℕ) → fillAllows e d one left → No one → left ≡ d
+  refused-fill = outcomes.refused-fill
+
+  pub refused-amendment : (d : List ℕ) (i v : ℕ) → amendAllows d i v one left → No one → left ≡ d
+  refused-amendment = outcomes.refused-amendment
+
+  pub refused-site : (f : List ℕ) (s : ℕ) (old : List ℕ) → siteAllows f s old one left → No one → left ≡ old
+  refused-site = outcomes.refused-site
+
+  pub refused-writing : (e old : List ℕ) → writeAllows e old one left → No one → left ≡ old
+  refused-writing = outcomes.refused-writing
+
+  pub refused-listing : (f old : List ℕ) (before : ℕ) {n : ℕ} → listAllows f old before one left n → No one → (left ≡ old) × (n ≡ before)
+  refused-listing = outcomes.refused-listing
+
+-- DEMAND 2. Acceptable entries and a sheet's 209 cells are accepted, and nothing else is ..
+pub accepted-fill : {one : IcuAnswer} {left : List ℕ} (e d : List ℕ) → fillAllows e d one left → judged e ≡ Accepted → length d ≡ sheetCount → Yes one
+accepted-fill = outcomes.accepted-fill
+
+pub acceptable-only : {one : IcuAnswer} {left : List ℕ} (e d : List ℕ) → fillAllows e d one left → Yes one → (judged e ≡ Accepted) × (length d ≡ sheetCount)
+acceptable-only = outcomes.acceptable-only
+
+-- .. and an accepted fill leaves the procedure, line by line: the 209 cells of `sheet e`.
+pub filled-sheet : {one : IcuAnswer} {left : List ℕ} (e d : List ℕ) → fillAllows e d one left → Yes one → left ≡ sheet e
+filled-sheet = outcomes.filled-sheet
+
+-- On acceptable entries no time reaches BLANK: lines 23 to 26 are BLANK only where the options are not allowed ..
+pub blank-only-where-refused : (s o : Approach) (CL : ℕ) → Fair s → FairCycle CL → BlankMeans s o CL
+blank-only-where-refused s o CL fair cycle = lines-refused s CL fair cycle o
+
+-- .. the totals of a pair only where it is shared or a line 26 is BLANK, the split total never ..
+pub blank-totals : (e : List ℕ) → judged e ≡ Accepted → (a o : ℕ) → a < approachCount → o < approachCount → PairBlank e a o
+blank-totals = pair-blank
+
+-- .. and every cell of the sheet fits 32 bits.
+pub cells-fit : (e : List ℕ) → judged e ≡ Accepted → (k : ℕ) → getD (sheet e) k 0 ≤ BLANK
+cells-fit e accepted k = sheet-fits e accepted .at k
+
+-- K1 to K10: every number that the rules give for them comes out of the definitions, and each junction is acceptable: so by
+-- `accepted-fill` and `filled-sheet` those numbers are what `icu_fill` leaves.
+pub junctions : (workedOut ≡ given) × (map judged toCompare ≡ replicate (size toCompare) Accepted)
+junctions = (compared, acceptable)
+
+-- A study file written and read back gives the same sites ..
+pub written-and-read :
+    {one : IcuAnswer} {left : List ℕ} (e old : List ℕ) → AllBelow numberLimit e → writeAllows e old one left → Yes one
+    → studies.ReadBack e (take (fileBytes (sitesIn e)) left)
+written-and-read = outcomes.written-and-read
+
+-- .. and of a good file each site is given, its sites' entries are accepted for writing wherever there is room for the file, and
+-- the bytes are the same.
+pub read-and-written : (file : List ℕ) → AllBelow byteLimit file → judgement file ≡ Accepted → GivenAgain file
+read-and-written = outcomes.read-and-written
+
+-- A file longer than any good one is judged by its first bytes, one more than the longest good one has: 59,049.
+pub long-file : (file : List ℕ) → studies.decisive ≤ length file → judgement (take studies.decisive file) ≡ judgement file
+long-file = studies.first-bytes-decide
+
+-- No listing is longer than the room that the header gives for one.
+pub longest-listing : (file : List ℕ) → length (listing file) ≤ 6_120
+longest-listing = length-listing
+
+-- DEMAND 3. An accepted amendment of one entry, on a sheet filled from acceptable entries, gives exactly what a fill of the
+-- amended entries gives.
+pub amendment :
+    {one two : IcuAnswer} {before after : List ℕ} (e d : List ℕ) (i v : ℕ)
+    → fillAllows e d one before → Yes one → amendAllows before i v two after → Yes two → fillAllows (set e i v) d one after
+amendment = outcomes.amendment
+
+-- SIZE, ENTRY, then the entries as they would stand
+pub amendment-answer : (d : List ℕ) (i v : ℕ) → amendAnswer d i v ≡ (sheetAnswer d then entryAnswer i then judged (set (take entryCount d) i v))
+amendment-answer = one-answer
+
+-- On any sheet at all, an accepted amendment leaves in every cell that its entry reaches the fresh fill of the amended entries,
+-- and every other cell as it was, whatever it held.
+pub amendment-on-any-sheet :
+    {one : IcuAnswer} {after : List ℕ} (d : List ℕ) (i v k : ℕ) → amendAllows d i v one after → Yes one → k < length d
+    → getD after k 0 ≡ cond (reached i k) (getD (sheet (set (take entryCount d) i v)) k 0) (getD d k 0)
+amendment-on-any-sheet = outcomes.amendment-on-any-sheet
+
+-- Over any run of amendments, refused ones among them, a filled sheet becomes the fresh fill of its entries with the accepted
+-- changes made in order ..
+pub run-of-amendments : (run : List Change) (e after : List ℕ) → judged e ≡ Accepted → Run run (sheet e) after → after ≡ sheet (entriesBy run e)
+run-of-amendments = outcomes.run-of-amendments
+
+-- .. and on any sheet at all no cell changes outside what the accepted amendments reach.
+pub outside-the-reach :
+    (run : List Change) (d after : List ℕ) (k : ℕ) → Run run d after → k < length d → reachedBy run d k ≡ false → getD after k 0 ≡ getD d k 0
+outside-the-reach = outcomes.outside-the-reach
+
+-- CHANGES MADE TOGETHER, judged as all would stand: the amendment of one entry is their case of one. On a filled sheet an accepted
+-- set gives the fresh fill ..
+pub changes-together :
+    (e : List ℕ) → judged e ≡ Accepted → (changes : List Change) → togetherAnswer (sheet e) changes ≡ Accepted
+    → amendedTogether (sheet e) changes ≡ sheet (withChanges changes e)
+changes-together e ok changes = all-fresh e ok changes
+
+-- .. on any sheet every cell that some change reaches holds the fresh fill and every other stays; refused, all stay.
+pub changes-on-any-sheet :
+    (d : List ℕ) (changes : List Change) → togetherAnswer d changes ≡ Accepted → (k : ℕ) → k < length d
+    → getD (amendedTogether d changes) k 0 ≡ cond (someReaches changes k) (getD (sheet (entriesWith d changes)) k 0) (getD d k 0)
+changes-on-any-sheet = all-cells
+
+pub refused-changes :
+    {why : Refusal} {place : ℕ} (d : List ℕ) (changes : List Change) → togetherAnswer d changes ≡ Refused why place → amendedTogether d changes ≡ d
+refused-changes d changes = all-stays d changes
+
+-- THE ENGINEERS' TEXTS. Any 81 numbers of 32 bits, written as a junction's text and read, are the same numbers ..
+pub written-as-text : (e : List ℕ) → length e ≡ entryCount → AllBelow numberLimit e → parsed (junctionText e) .entries ≡ e
+written-as-text = texts.entries-back
+
+-- .. and acceptable ones are read with nothing wrong: the reader leaves them, whatever its list held.
+pub accepted-as-text :
+    (e : List ℕ) → length e ≡ entryCount → AllBelow numberLimit e → judged e ≡ Accepted → reading (junctionText e) ≡ Read
+accepted-as-text = texts.read-back
+
+pub left-as-text :
+    (e : List ℕ) → length e ≡ entryCount → AllBelow numberLimit e → (old : List ℕ) → judged e ≡ Accepted
+    → keptUnlessRead (reading (junctionText e)) (parsed (junctionText e) .entries) old ≡ e
+left-as-text = texts.left-back
+
+-- Every cell of a sheet stands on the printed page, in the row and the column that a list of changes tells of it.
+pub on-the-page : (cell : ℕ) → cell < sheetCount → OnPage cell
+on-the-page = on-page
+
+-- A text that is not read alters nothing.
+pub refused-text : (text new old : List ℕ) → (reading text ≡ Read → ⊥) → keptUnlessRead (reading text) new old ≡ old
+refused-text text new old = by (reading text)
+  where
+    by : (r : Reading) → (r ≡ Read → ⊥) → keptUnlessRead r new old ≡ old
+    by Read refused = absurd (refused refl)
+    by (Misread why place) refused = refl
+    by (NotAccepted why at place) refused = refl

@@ -1,0 +1,42 @@
+-- What the theorems say of outcomes of the calls: accepted and refused ones, runs of amendments, and a file that is given again.
+use mathlib.Core.Path.{_≡_}
+use mathlib.Core.List.{List, [], _∷_}
+use Prim.Native.Nat.{ℕ, _<_, _≤_}
+use lib.ListN.{length}
+use Rattle.layout.specs.Entries.{entryCount}
+use Rattle.procedure.specs.Junctions.{K1, K2, K3, K4, K7, K8, K9, K10}
+use Rattle.amend_sets.specs.Amend.{Change}
+use Rattle.lists.specs.Lists.{over}
+use Rattle.study.specs.Study.{countOf, siteEntries, entriesUpTo}
+use Rattle.icu.specs.declared.IcuAnswer.{IcuAnswer}
+use Rattle.icu.specs.Calls.{amendAllows, siteAllows, writeAllows}
+
+-- number 0 is accepted, any other a refusal
+abbrev pub Yes : IcuAnswer → Type 0
+Yes said = said .number ≡ 0
+
+abbrev pub No : IcuAnswer → Type 0
+No said = 0 < said .number
+
+-- the junctions to compare; "K5, K6" are letters
+abbrev pub toCompare : List (List ℕ)
+toCompare = K1 ∷ K2 ∷ K3 ∷ K4 ∷ K7 ∷ K8 ∷ K9 ∷ K10 ∷ []
+
+-- one call of `icu_amend` on a sheet that holds d, and what follows on the sheet that it leaves
+pub record Step (d : List ℕ) (c : Change) (rest : List ℕ → Type 0) : Type 0 where
+  pub said : IcuAnswer
+  pub left : List ℕ
+  pub allowed : amendAllows d (c .entry) (c .value) said left
+  pub goes-on : rest left
+
+-- a run of calls of `icu_amend`, each on the sheet that the one before it left, whatever each is answered
+unfoldable pub Run : List Change → List ℕ → List ℕ → Type 0
+Run [] d after = after ≡ d
+Run (c ∷ run) d after = Step d c (λ left. Run run left after)
+
+-- each site of a file is given; its sites' entries are accepted wherever there is room for the file, and written as the same bytes
+pub record GivenAgain (file : List ℕ) : Type 0 where
+  pub given : (s : ℕ) → s < countOf file → {said : IcuAnswer} {left : List ℕ} (old : List ℕ) → length old ≡ entryCount
+      → siteAllows file s old said left → Yes said × (left ≡ siteEntries file s)
+  pub written : {said : IcuAnswer} {left : List ℕ} (old : List ℕ) → length file ≤ length old
+      → writeAllows (entriesUpTo file (countOf file)) old said left → Yes said × (left ≡ over old 0 file)
