@@ -196,10 +196,10 @@ def contracts(crate, wanted):
 
 def theorems(table):
     """What the statements in the theorem file name."""
-    path = os.path.join(CRATES, "icu", "proofs", "Theorems.antt")
+    path = os.path.join(CRATES, "icu_theorems", "proofs", "Theorems.antt")
     text = open(path, encoding="utf-8").read()
-    known = uses(text, "icu")
-    stated = "\n".join(re.findall(r"(?m)^(?:abbrev )?pub .*(?:\n    .*)*", text))
+    known = uses(text, "icu_theorems")
+    stated = "\n".join(re.findall(r"(?m)^ *(?:abbrev )?pub .*(?:\n    .*)*", text))
     start = [known[n] for n in names_in(stated) if n in known]
     # a theorem may be stated by a record of the laws that prove it
     for crate in ("line_bounds", "sheet", "study_theorems", "page_form"):

@@ -106,7 +106,7 @@ amendment-on-any-sheet d i v k allowed is h =
 
 -- a run of amendments
 
-run-leaves : (run : List Change) (d after : List ℕ) → Run run d after → after ≡ amendedBy run d
+pub run-leaves : (run : List Change) (d after : List ℕ) → Run run d after → after ≡ amendedBy run d
 unfolding Run amendedBy
 run-leaves [] d after done = done
 run-leaves (c ∷ run) d after step = rw (step .allowed .1) at (run-leaves run (step .left) after (step .goes-on))

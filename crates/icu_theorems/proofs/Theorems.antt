@@ -9,7 +9,7 @@ use mathlib.Core.List.{List, [], _∷_, map, replicate}
 use mathlib.Core.List.{length as size}
 use Prim.Native.Nat.{ℕ, _<_, _≤_, _*_}
 use lib.ListN.{length, getD, set, take}
-use Rattle.answers.specs.Answers.{_then_}
+use Rattle.answers.specs.Answers.{_then_, left-by}
 use Rattle.answers.specs.declared.Refusal.{Refusal}
 use Rattle.answers.specs.declared.Answer.the-variants.{Accepted, Refused}
 use Rattle.layout.specs.Entries.{approachCount, entryCount}
@@ -24,10 +24,10 @@ use Rattle.line_bounds.proofs.Permitted.{Refused as BlankMeans, lines-refused}
 use Rattle.sheet_cells.specs.Cells.{sheetAnswer}
 use Rattle.sheet.proofs.Fits.{sheet-fits}
 use Rattle.sheet.proofs.PairBlank.{PairBlank, pair-blank}
-use Rattle.amend_reach.specs.Reach.{reached}
+use Rattle.amend_reach.specs.Reach.{reached, merged}
 use Rattle.amend_sets.specs.Amend.{Change, withChanges, entriesWith, entryAnswer, togetherAnswer, someReaches, amendedTogether}
-use Rattle.amend_sets.specs.Amend.{amendAnswer, entriesBy, reachedBy}
-use Rattle.amend_sets.proofs.Together.{all-stays, all-cells, all-fresh, one-answer}
+use Rattle.amend_sets.specs.Amend.{amendAnswer, amended, amendedBy, entriesBy, reachedBy}
+use Rattle.amend_sets.proofs.Together.{all-stays, all-cells, all-fresh, one-answer, one-amended}
 use Rattle.lists.specs.Lists.{AllBelow}
 use Rattle.study_numbers.specs.Numbers.{numberLimit, byteLimit}
 use Rattle.study.specs.Study.{judgement, fileBytes, sitesIn}
@@ -150,9 +150,12 @@ pub amendment :
     → fillAllows e d one before → Yes one → amendAllows before i v two after → Yes two → fillAllows (set e i v) d one after
 amendment = outcomes.amendment
 
--- SIZE, ENTRY, then the entries as they would stand
+-- SIZE, ENTRY, then the entries as they would stand; and what the entry reaches is renewed
 pub amendment-answer : (d : List ℕ) (i v : ℕ) → amendAnswer d i v ≡ (sheetAnswer d then entryAnswer i then judged (set (take entryCount d) i v))
 amendment-answer = one-answer
+
+pub amendment-sheet : (d : List ℕ) (i v : ℕ) → amended d i v ≡ left-by (amendAnswer d i v) (merged i (sheet (set (take entryCount d) i v)) d) d
+amendment-sheet = one-amended
 
 -- On any sheet at all, an accepted amendment leaves in every cell that its entry reaches the fresh fill of the amended entries,
 -- and every other cell as it was, whatever it held.
@@ -160,6 +163,10 @@ pub amendment-on-any-sheet :
     {one : IcuAnswer} {after : List ℕ} (d : List ℕ) (i v k : ℕ) → amendAllows d i v one after → Yes one → k < length d
     → getD after k 0 ≡ cond (reached i k) (getD (sheet (set (take entryCount d) i v)) k 0) (getD d k 0)
 amendment-on-any-sheet = outcomes.amendment-on-any-sheet
+
+-- A run of amendments leaves what making each in turn does.
+pub run-leaves : (run : List Change) (d after : List ℕ) → Run run d after → after ≡ amendedBy run d
+run-leaves = outcomes.run-leaves
 
 -- Over any run of amendments, refused ones among them, a filled sheet becomes the fresh fill of its entries with the accepted
 -- changes made in order ..
