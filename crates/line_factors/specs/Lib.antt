@@ -1,2 +1,1 @@
 pub mod Factors
-pub mod Working

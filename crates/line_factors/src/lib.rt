@@ -1,46 +1,40 @@
 // The lane factors, in thousandths.
 ghost use mathlib.Core.Path.{_≡_};
 ghost use Prim.Native.Nat.{_≤_};
-ghost use Rattle.line_factors.specs.Factors.{laneFactor};
-ghost use Rattle.line_factors.specs.Working.{sixOf};
+ghost use Rattle.line_factors.specs.Factors.{twoLanes, moreLanes, laneFactor};
 use kinds::Group;
 
-// One to six lanes of the left, the through and the right group.
-const TABLE: [u32; 18] = [
-    1_000,
-    971,
-    971,
-    971,
-    971,
-    971,
-    1_000,
-    952,
-    908,
-    908,
-    908,
-    908,
-    1_000,
-    885,
-    885,
-    885,
-    885,
-    885,
-];
-
-fn six_of(group: Group) -> usize
-    ensures { λ r. ⌜ (r ≡ sixOf group) × (r ≤ 2) ⌝ }
+fn two_lanes(group: Group) -> u32
+    ensures { λ r. ⌜ r ≡ twoLanes group ⌝ }
 {
     match group {
-        Group::Left => 0,
-        Group::Through => 1,
-        Group::Right => 2,
+        Group::Left => 971,
+        Group::Through => 952,
+        Group::Right => 885,
     }
 }
 
-// The factor of a group with that many lanes.
+// Three lanes or more.
+fn more_lanes(group: Group) -> u32
+    ensures { λ r. ⌜ r ≡ moreLanes group ⌝ }
+{
+    match group {
+        Group::Left => 971,
+        Group::Through => 908,
+        Group::Right => 885,
+    }
+}
+
+// The factor of a group with that many lanes; picked, not looked up, it takes no memory.
 pub fn lane_factor(group: Group, lanes: u32) -> u32
-    requires { ⌜ (1 ≤ lanes) × (lanes ≤ 6) ⌝ }
+    requires { ⌜ 1 ≤ lanes ⌝ }
     ensures { λ r. ⌜ (r ≡ laneFactor group lanes) × (r ≤ 1_000) ⌝ }
 {
-    TABLE[6 * six_of(group) + (lanes - 1) as usize]
+    if lanes == 1 {
+        return 1_000;
+    }
+    if lanes == 2 {
+        return two_lanes(group);
+    }
+    more_lanes(group)
 }

@@ -1,20 +1,28 @@
-use Rattle.line_factors.proofs.Rule.{rule}
-use Rattle.line_factors.specs.Working.{sixOf}
+use mathlib.Core.Path.{sym, _∙_, ap}
 use native.Mathlib.Omega.{arith}
-use Prim.Native.Nat.{_≤_}
-use mathlib.Core.Path.{_≡_}
 use borrow.Author.Needs.{needs}
+use Rattle.line_factors.specs.Factors.{laneFactor}
+use Rattle.line_factors.proofs.Rule.{one, two, more, two-most, more-most}
 use Rattle.line_factors.proofs.lane_factor.Statement.{statement}
 use Rattle.line_factors.proofs.lane_factor.Tie as tie
 
 returns : tie.Need-returns
 returns c =
-    let s = c .before in
-    let two : sixOf (s .args .group) ≤ 2 = omega (arith, c .six-of .ensures) in
-    rw (c .six-of .ensures .0) (rule (s .args .group) (s .args .lanes) two (s .pre .0) (s .pre .1))
+    let g = c .before .args .group in
+    (sym (ap (laneFactor g) (c .if1 .taken) ∙ one g), omega arith)
+
+returns-2 : tie.Need-returns-2
+returns-2 c =
+    let g = c .before .before .before .args .group in
+    let is = c .two-lanes .ensures in
+    (is ∙ sym (ap (laneFactor g) (c .before .if2 .taken) ∙ two g), omega (arith, two-most g, is))
+
+returns-3 : tie.Need-returns-3
+returns-3 c =
+    let start = c .before .before .before in
+    let g = start .args .group in
+    let is = c .more-lanes .ensures in
+    (is ∙ sym (more g (start .args .lanes) (omega (arith, start .pre, c .before .if2 .left, c .before .before .if1 .left))), omega (arith, more-most g, is))
 
 pub lane-factor-spec : {M : Type 1} → statement M
-lane-factor-spec =
-    tie.close
-    (tie.spec (search needs) (search needs) (search needs) (search needs) (search needs) (search needs)
-    (search needs) returns)
+lane-factor-spec = tie.close (tie.spec returns (search needs) returns-2 (search needs) returns-3)
