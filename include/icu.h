@@ -6,9 +6,11 @@
  * seconds, factors and shares ten-thousandths, the ICU tenths of a percent.
  *
  * A list passes as a pointer and the number of its elements. Lists are lent for the call only;
- * nothing is kept afterwards. No pointer may be null, also where the length is 0, lists of numbers
- * must be aligned as such, and a list that a call writes may not overlap another. Calls on
- * different lists may run at the same time.
+ * nothing is kept afterwards. A pointer may be null where its length is 0, and nowhere else; lists
+ * of numbers must be aligned as such, and a list that a call writes may not overlap another.
+ *
+ * The calls keep no state. Any two may run at the same time, in any threads, as long as neither
+ * writes a list that the other is lent; both may read the same one.
  *
  * Every call says what it refuses. Where several refusals apply, the first in the order of their
  * numbers is answered, unless the call says otherwise. A refused call alters nothing.
@@ -22,6 +24,11 @@
 #ifdef __cplusplus
 extern "C" {
 #endif
+
+/* The version of this interface: a change of the first number changes what programs may rely on. */
+#define ICU2003_VERSION_MAJOR 1
+#define ICU2003_VERSION_MINOR 0
+#define ICU2003_VERSION "1.0"
 
 /* ------------------------------------------------------------------ answers */
 
@@ -63,7 +70,8 @@ enum { ICU_LEFT = 0, ICU_THROUGH = 1, ICU_RIGHT = 2 };
 #define ICU_SHARED_LANE(a) (60 + 5 * (a))     /* 1: a through lane is shared with the lefts */
 #define ICU_PEDESTRIANS(a) (60 + 5 * (a) + 1) /* 0 to 2,000 per hour */
 #define ICU_PUSH_BUTTON(a) (60 + 5 * (a) + 2) /* 1: pedestrians have a button */
-#define ICU_WALK_TIME(a) (60 + 5 * (a) + 3)   /* pedestrian time, 0 to 60,000 ms */
+#define ICU_PEDESTRIAN_TIME(a) (60 + 5 * (a) + 3) /* 0 to 60,000 ms */
+#define ICU_WALK_TIME(a) ICU_PEDESTRIAN_TIME(a)   /* its older name */
 #define ICU_FREE_RIGHT(a) (60 + 5 * (a) + 4)  /* 1: rights do not wait for a phase */
 
 #define ICU_CYCLE 80 /* 30 to 240 s */
@@ -76,6 +84,38 @@ enum { ICU_LEFT = 0, ICU_THROUGH = 1, ICU_RIGHT = 2 };
 
 /* Cells 0 to 80 are the entries. Then the 28 lines of each approach, k from 1. */
 #define ICU_LINE(a, k) (81 + 28 * (a) + ((k) - 1))
+
+/* The lines by name, for ICU_LINE, and their units. */
+enum {
+    ICU_LEFT_VOLUME = 1,          /* vehicles per hour, turns without a lane folded in */
+    ICU_THROUGH_VOLUME = 2,       /* vehicles per hour */
+    ICU_RIGHT_VOLUME = 3,         /* vehicles per hour */
+    ICU_TURNING_FACTOR = 4,       /* of the through lanes, ten-thousandths */
+    ICU_LEFT_FLOW = 5,            /* saturation flows, vehicles per hour */
+    ICU_THROUGH_FLOW = 6,
+    ICU_RIGHT_FLOW = 7,
+    ICU_STRAIGHT_FLOW = 8,        /* of the through lanes without folded lefts */
+    ICU_LEFT_LANE_FLOW = 9,       /* of the lefts, in their own or a shared lane */
+    ICU_RIGHT_INTERFERENCE = 10,  /* pedestrians in the way of the rights, ms */
+    ICU_THROUGH_INTERFERENCE = 11, /* ms */
+    ICU_PEDESTRIAN_FREQUENCY = 12, /* ten-thousandths of the cycles */
+    ICU_LEFT_REFERENCE = 13,      /* reference times, ms */
+    ICU_THROUGH_REFERENCE = 14,
+    ICU_RIGHT_REFERENCE = 15,
+    ICU_LEFT_ADJUSTED = 16,       /* adjusted reference times, ms */
+    ICU_THROUGH_ADJUSTED = 17,
+    ICU_RIGHT_ADJUSTED = 18,
+    ICU_HEAVIEST_LANE = 19,       /* volume of the left lane, vehicles per hour */
+    ICU_LEFT_SHARE = 20,          /* share of lefts in it, ten-thousandths */
+    ICU_LEFT_EQUIVALENT = 21,     /* through-vehicle equivalent of a left, ten-thousandths */
+    ICU_LEFT_LANE_SATURATION = 22, /* flow of the left lane, vehicles per hour */
+    ICU_OPTION_A = 23,            /* permitted times by options A and B, ms or ICU_BLANK */
+    ICU_OPTION_B = 24,
+    ICU_PERMITTED_REFERENCE = 25, /* the lesser of the two, ms or ICU_BLANK */
+    ICU_PERMITTED_ADJUSTED = 26,  /* ms or ICU_BLANK */
+    ICU_SPLIT_REFERENCE = 27,     /* ms */
+    ICU_SPLIT_ADJUSTED = 28       /* ms */
+};
 
 /* Four cells of each pair of approaches: totals in ms, and the index of the least. */
 #define ICU_PAIR_EB_WB 193

@@ -29,7 +29,7 @@ static void enter(uint32_t entries[ICU_ENTRIES])
         entries[ICU_SHARED_LANE(a)] = 0;
         entries[ICU_PEDESTRIANS(a)] = 0;
         entries[ICU_PUSH_BUTTON(a)] = 1;
-        entries[ICU_WALK_TIME(a)] = 16000;
+        entries[ICU_PEDESTRIAN_TIME(a)] = 16000;
         entries[ICU_FREE_RIGHT(a)] = 0;
     }
     entries[ICU_CYCLE] = 120;
