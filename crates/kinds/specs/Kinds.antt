@@ -31,7 +31,7 @@ limitsOf FreeRight = 0 to 1 usually 0
 limitsOf Cycle = 30 to 240 usually 120
 
 -- an entry of this kind is "in range"
-unfoldable pub inRange : Kind → ℕ → Bool
+abbrev pub inRange : Kind → ℕ → Bool
 inRange k x = cond (leb (limitsOf k .least) x) (leb x (limitsOf k .most)) false
 
 -- the same as two facts, for those who lean on it
