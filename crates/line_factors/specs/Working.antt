@@ -3,8 +3,8 @@ use Prim.Native.Nat.{ℕ}
 use Rattle.kinds.specs.declared.Group.{Group}
 use Rattle.kinds.specs.declared.Group.the-variants.{Left, Through, Right}
 
--- where a group's factors stand in the code's table, in sixes
-abbrev pub sixOf : Group → ℕ
-sixOf Left = 0
-sixOf Through = 1
-sixOf Right = 2
+-- a group's row of the code's table
+abbrev pub rowOf : Group → ℕ
+rowOf Left = 0
+rowOf Through = 1
+rowOf Right = 2
