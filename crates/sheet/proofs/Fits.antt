@@ -119,7 +119,7 @@ module _ (e : List ℕ) (ok : judged e ≡ Accepted) where
   entries-fit = record { at = λ i. go i (decLt i entryCount) }
     where
       go : (i : ℕ) → Dec (i < entryCount) → getD e i 0 ≤ BLANK
-      go i (yes h) = le-trans (within _ _ (accepted-range e ok i h) .most) (limit-fits i h)
+      go i (yes h) = le-trans (within (kindAt i) (getD e i 0) (accepted-range e ok i h) .most) (limit-fits i h)
       go i (no h) = rw (List·getD-eq-default e 0 {n = i} (omega (arith, accepted-count e ok))) (lit≤ tt)
 
   module _ (a o : ℕ) (h : a < approachCount) (k : o < approachCount) where
