@@ -1,6 +1,8 @@
 // The kinds of entries: each is a type that knows its limits and its usual value.
 //
-// A limit is typed here, at its kind, and everything else asks the kind.
+// A limit is typed here, at its kind, and everything else asks the kind. A value of a kind is made here too: by `new`, of a
+// number that the kind takes, which it keeps as it is, or by `usual`. Each kind has a second field of no content that no other
+// crate can fill, so no other crate makes a value without them; the first is there to be read.
 ghost use mathlib.Core.Path.{_≡_};
 ghost use mathlib.Core.Bool.{true};
 ghost use Prim.Native.Nat.{_<_};

@@ -22,10 +22,14 @@ abbrev pub typed : List ℕ
 typed =
     1000 ∷ 971 ∷ 971 ∷ 971 ∷ 971 ∷ 971 ∷ 1000 ∷ 952 ∷ 908 ∷ 908 ∷ 908 ∷ 908 ∷ 1000 ∷ 885 ∷ 885 ∷ 885 ∷ 885 ∷ 885 ∷ []
 
-test : ℕ → Bool
-test k = eqb (getD typed k 0) (laneFactor (groupAt (k / mostOf Lanes)) (k % mostOf Lanes + 1)) && leb (getD typed k 0) 1000
+-- how many factors each group has there
+abbrev most : ℕ
+most = mostOf Lanes
 
-whole : holds-below test (groupCount * mostOf Lanes) ≡ true
+test : ℕ → Bool
+test k = eqb (getD typed k 0) (laneFactor (groupAt (k / most)) (k % most + 1)) && leb (getD typed k 0) 1000
+
+whole : holds-below test (groupCount * most) ≡ true
 unfolding test laneFactor
 whole = refl
 
@@ -39,9 +43,10 @@ pub rule :
     → (getD typed (mostOf Lanes * rowOf g + (n - 1)) 0 ≡ laneFactor g n) × (getD typed (mostOf Lanes * rowOf g + (n - 1)) 0 ≤ 1000)
 unfolding test
 rule g n s h k =
-    let i = mostOf Lanes * rowOf g + (n - 1) in
-    let two = both-true (eqb (getD typed i 0) (laneFactor (groupAt (i / mostOf Lanes)) (i % mostOf Lanes + 1))) (leb (getD typed i 0) 1000) (at-each test (groupCount * mostOf Lanes) whole i (omega arith)) in
-    let row : i / mostOf Lanes ≡ rowOf g = omega arith in
-    let lanes : i % mostOf Lanes + 1 ≡ n = omega arith in
-    let is : getD typed i 0 ≡ laneFactor (groupAt (i / mostOf Lanes)) (i % mostOf Lanes + 1) = eqb-true _ _ (two .0) in
+    let i = most * rowOf g + (n - 1) in
+    let right = eqb (getD typed i 0) (laneFactor (groupAt (i / most)) (i % most + 1)) in
+    let two = both-true right (leb (getD typed i 0) 1000) (at-each test (groupCount * most) whole i (omega arith)) in
+    let row : i / most ≡ rowOf g = omega arith in
+    let lanes : i % most + 1 ≡ n = omega arith in
+    let is : getD typed i 0 ≡ laneFactor (groupAt (i / most)) (i % most + 1) = eqb-true _ _ (two .0) in
     (is ∙ rw (row, lanes, group-of-row g), leb-true _ _ (two .1))

@@ -10,7 +10,7 @@ use Rattle.entries.specs.Layout.{movementEntry, approachEntry}
 use Rattle.procedure.specs.declared.Movement.{Movement}
 use Rattle.procedure.specs.declared.Approach.{Approach}
 
--- "Movement m has entries 5m to 5m+4"
+-- "Movement m has entries 5m to 5m+4". (`1 = tt` is the field of no content that lets none but the kinds make their values.)
 unfoldable pub readMovement : List ℕ → ℕ → Movement
 readMovement e m =
     record {

@@ -42,10 +42,38 @@ fn rights_at(entries: &[u32], along: Street, across: Street) -> Rights
     let nb = across.one;
     let sb = across.other;
     Rights {
-        eb: sheet_totals::right_of(free_at(entries, layout::EB), eb, wb, along.pair, sb, across.pair),
-        wb: sheet_totals::right_of(free_at(entries, layout::WB), wb, eb, along.pair, nb, across.pair),
-        nb: sheet_totals::right_of(free_at(entries, layout::NB), nb, sb, across.pair, eb, along.pair),
-        sb: sheet_totals::right_of(free_at(entries, layout::SB), sb, nb, across.pair, wb, along.pair),
+        eb: sheet_totals::right_of(
+            free_at(entries, layout::EB),
+            eb,
+            wb,
+            along.pair,
+            sb,
+            across.pair,
+        ),
+        wb: sheet_totals::right_of(
+            free_at(entries, layout::WB),
+            wb,
+            eb,
+            along.pair,
+            nb,
+            across.pair,
+        ),
+        nb: sheet_totals::right_of(
+            free_at(entries, layout::NB),
+            nb,
+            sb,
+            across.pair,
+            eb,
+            along.pair,
+        ),
+        sb: sheet_totals::right_of(
+            free_at(entries, layout::SB),
+            sb,
+            nb,
+            across.pair,
+            wb,
+            along.pair,
+        ),
     }
 }
 

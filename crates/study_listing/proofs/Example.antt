@@ -12,7 +12,7 @@ use Rattle.procedure.specs.Lines.{a, b, volume, vST, turningT, fT, flowOf, flow
 use Rattle.procedure.specs.Lines.{adjustedOf, weightedOf, weighted, adjusted, heaviest, vLL, q, single, leftShare, equivalent, E, flowA, sA}
 use Rattle.procedure.specs.Lines.{optionAOf, leftA, optionA, allowedA, allowedB, empty, line23, sB, throughB, optionB, line24, lesser, line25, line26}
 use Rattle.procedure.specs.Lines.{line27, line28, firstLines, laterLines, lines}
-use Rattle.procedure.specs.Pairs.{protected, permitted, split, picked, pair, throughTime, leftTime, rightTotal, icuOf, letterOf}
+use Rattle.procedure.specs.Pairs.{protected, permitted, split, picked, pair, throughTime, leftTime, rightTotal, icuOf, endsPassed}
 use Rattle.procedure.specs.Sheet.{linesAt, pairAt, rightAt, lastOf, lastAt, sheet}
 use Rattle.answers.specs.Answers.{inTurn}
 use Rattle.kinds.specs.Kinds.{kindAt}
@@ -31,6 +31,6 @@ unfolding ascii kindAt up term turns faded decayNumber laneFactor movementEntry 
     vST turningT fT flowOf flow turningST sST sSL G interference frequency F time reference adjustedOf weightedOf weighted adjusted heaviest
     vLL q single leftShare equivalent E flowA sA optionAOf leftA optionA allowedA allowedB empty line23 sB throughB optionB line24 lesser
     line25 line26 line27 line28 firstLines laterLines lines protected permitted split picked pair throughTime leftTime rightTotal icuOf
-    letterOf linesAt pairAt rightAt lastOf lastAt sheet inTurn sizeAnswer outside badlyShared otherLanes unserved judged bytesOf table
+    endsPassed linesAt pairAt rightAt lastOf lastAt sheet inTurn sizeAnswer outside badlyShared otherLanes unserved judged bytesOf table
     packed startsWith judgement fileOf digits decimal numberThen ratedLine refusedLine siteOf siteLines listing
 example = refl

@@ -32,9 +32,10 @@ returns-3 c =
     let is = part-there (args .format) (start .pre) (args .file .now) (args .number) (rw (part .site .ensures) at (asked .if2 .left)) in
     let whole = length-siteBlock (args .format) (args .file .now) (args .number) (has-site (args .format) (args .file .now) (args .number) is) in
     let good = eq-eqb (length block) (blockBytes (args .format)) whole in
-    let sized = eq-eqb _ _ (size .if1 .left) in
-    (simp (sized, is) (simp (part .site .ensures, is, good, sized) at (read .entries-of .ensures .0)),
-     simp (sized, is) (simp (part .site .ensures, is, good, sized) at (read .entries-of .ensures .1)))
+    let sized = eq-eqb _ _ (size .if1 .left) in (
+      simp (sized, is) (simp (part .site .ensures, is, good, sized) at (read .entries-of .ensures .0)),
+      simp (sized, is) (simp (part .site .ensures, is, good, sized) at (read .entries-of .ensures .1)),
+    )
 
 pub site-entries-spec : {M : Type 1} → statement M
 site-entries-spec =

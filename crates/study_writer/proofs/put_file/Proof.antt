@@ -7,7 +7,10 @@ use Rattle.study_writer.proofs.put_file.Tie as tie
 
 write-all-requires : tie.Need-write-all-requires
 write-all-requires c κs =
-    let start = c .before .before .before .before .before .before .before .before .before .before .before .before .before .before .before .before .before .before .before in
+    let offsets = c .before .before .before .before in
+    let count = offsets .before .before .before .before in
+    let opened = count .before .before .before .before in
+    let start = opened .before .before .before .before .before .before .before in
     let entries = start .args .entries .now in
     omega (arith, c .block-place .ensures, start .pre .1 .fits, whole-sites (start .args .format) entries (start .pre .1 .whole))
 
