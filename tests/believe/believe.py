@@ -136,7 +136,7 @@ def read_declared():
         folder = os.path.join(CRATES, crate, "src")
         for file in sorted(os.listdir(folder)) if os.path.isdir(folder) else []:
             text = open(os.path.join(folder, file), encoding="utf-8").read()
-            for m in re.finditer(r"(?m)^(?:#\[.*\]\n)?(?:pub )?(?:struct|enum) (\w+)(?:\([^)]*\);|\s*\{.*?^\})", text, re.S | re.M):
+            for m in re.finditer(r"(?m)^(?:#\[.*\]\n)?(?:pub )?(?:struct|enum) (\w+)(?:\([^;]*\);|\s*\{.*?^\})", text, re.S | re.M):
                 d = Definition(crate, "declared", m.group(1))
                 d.lines = [l for l in m.group(0).split("\n") if l.strip()]
                 found[(crate, "declared", m.group(1))] = d

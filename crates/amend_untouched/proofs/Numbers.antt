@@ -33,11 +33,11 @@ numberCount = ownFrom + approachEntries
 abbrev movementFrom : (ℕ → ℕ) → ℕ → Movement
 movementFrom g m =
     record {
-      lanes = record { 0 = g (movementPlace m lanesNo) };
-      volume = record { 0 = record { 0 = g (movementPlace m volumeNo) } };
-      ideal = record { 0 = record { 0 = g (movementPlace m idealNo) } };
-      lost = record { 0 = record { 0 = g (movementPlace m lostNo) } };
-      green = record { 0 = record { 0 = g (movementPlace m greenNo) } };
+      lanes = record { 0 = g (movementPlace m lanesNo); 1 = tt };
+      volume = record { 0 = record { 0 = g (movementPlace m volumeNo) }; 1 = tt };
+      ideal = record { 0 = record { 0 = g (movementPlace m idealNo) }; 1 = tt };
+      lost = record { 0 = record { 0 = g (movementPlace m lostNo) }; 1 = tt };
+      green = record { 0 = record { 0 = g (movementPlace m greenNo) }; 1 = tt };
     }
 
 abbrev pub approachFrom : (ℕ → ℕ) → Approach
@@ -46,11 +46,11 @@ approachFrom g =
       left = movementFrom g (left 0);
       through = movementFrom g (through 0);
       right = movementFrom g (right 0);
-      shared = record { 0 = g (ownFrom + sharedNo) };
-      walkers = record { 0 = g (ownFrom + walkersNo) };
-      button = record { 0 = g (ownFrom + buttonNo) };
-      crossing = record { 0 = record { 0 = g (ownFrom + crossingNo) } };
-      free = record { 0 = g (ownFrom + freeNo) };
+      shared = record { 0 = g (ownFrom + sharedNo); 1 = tt };
+      walkers = record { 0 = g (ownFrom + walkersNo); 1 = tt };
+      button = record { 0 = g (ownFrom + buttonNo); 1 = tt };
+      crossing = record { 0 = record { 0 = g (ownFrom + crossingNo) }; 1 = tt };
+      free = record { 0 = g (ownFrom + freeNo); 1 = tt };
     }
 
 -- number f changed to x

@@ -34,14 +34,6 @@ pub size-accepted : (e : List ℕ) → sizeAnswer e ≡ Accepted → length e �
 unfolding sizeAnswer
 size-accepted e h = eqb-true (length e) entryCount (not-false _ (not-refused (not (eqb (length e) entryCount)) Size 0 h))
 
-within : (k : Kind) (x : ℕ) → inRange k x ≡ true → Within k x
-unfolding inRange
-within k x h = go (leb (limitsOf k .least) x) refl h
-  where
-    go : (t : Bool) → leb (limitsOf k .least) x ≡ t → cond t (leb x (limitsOf k .most)) false ≡ true → Within k x
-    go true p q = record { least = leb-true _ _ p; most = leb-true _ _ q }
-    go false p q = absurd (let z : _≡_ {A = ℕ} 0 1 = cc in omega arith)
-
 -- the kind at a place, by the movement or the approach
 pub kind-of-movement : (m j : ℕ) → m < movementCount → j < movementEntries → kindAt (movementPlace m j) ≡ movementKind j
 unfolding kindAt
@@ -125,16 +117,16 @@ module _ (e : List ℕ) (ok : judged e ≡ Accepted) where
   pub accepted-count : length e ≡ entryCount
   accepted-count = size-accepted e (parts .0)
 
-  -- each entry is within its kind's limits
-  pub accepted-range : (i : ℕ) → i < entryCount → Within (kindAt i) (getD e i 0)
+  -- each entry is in its kind's range
+  pub accepted-range : (i : ℕ) → i < entryCount → inRange (kindAt i) (getD e i 0) ≡ true
   unfolding outside
-  accepted-range i h = within (kindAt i) (getD e i 0) (not-false _ (fault-free Range (later .0) i h))
+  accepted-range i h = not-false _ (fault-free Range (later .0) i h)
 
-  pub accepted-movement : (m j : ℕ) → m < movementCount → j < movementEntries → Within (movementKind j) (movementEntry e m j)
+  pub accepted-movement : (m j : ℕ) → m < movementCount → j < movementEntries → inRange (movementKind j) (movementEntry e m j) ≡ true
   unfolding movementEntry
   accepted-movement m j h k = rw (← kind-of-movement m j h k) (accepted-range (movementPlace m j) (omega arith))
 
-  pub accepted-approach : (a j : ℕ) → a < approachCount → j < approachEntries → Within (approachKind j) (approachEntry e a j)
+  pub accepted-approach : (a j : ℕ) → a < approachCount → j < approachEntries → inRange (approachKind j) (approachEntry e a j) ≡ true
   unfolding approachEntry
   accepted-approach a j h k = rw (← kind-of-approach a j h k) (accepted-range (approachPlace a j) (omega arith))
 

@@ -1,7 +1,10 @@
 // The entries judged: the first refusal that applies, or acceptance.
 ghost use mathlib.Core.Path.{_≡_};
+ghost use mathlib.Core.Bool.{true};
 ghost use Prim.Native.Nat.{_+_, _<_, _≤_};
 ghost use lib.ListN.{length};
+ghost use Rattle.answers.specs.declared.Answer.the-variants.{Accepted};
+ghost use Rattle.kinds.specs.Kinds.{inRange, movementKind, approachKind};
 ghost use Rattle.layout.specs.Entries.{approachCount, movementCount, movementEntries, approachEntries, entryCount};
 ghost use Rattle.entries.specs.Layout.{movementEntry, approachEntry, cycle};
 ghost use Rattle.entries.specs.Judging.{sizeAnswer, outside, badlyShared, otherLanes, unserved, refusalOf, countOf, faulty, eachAnswer, judged};
@@ -35,6 +38,22 @@ pub fn approach_entry(entries: &[u32], approach: usize, place: usize) -> u32
     ensures { λ r. ⌜ r ≡ approachEntry (now (entries .entry)) approach place ⌝ }
 {
     entries[layout::APPROACHES_FROM + layout::APPROACH_ENTRIES * approach + place]
+}
+
+// Entry number `place` of a movement of acceptable entries: a number that its kind takes.
+pub fn movement_value(entries: &[u32], movement: usize, place: usize) -> u32
+    requires { ⌜ (judged (now entries) ≡ Accepted) × (movement < movementCount) × (place < movementEntries) ⌝ }
+    ensures { λ r. ⌜ (r ≡ movementEntry (now (entries .entry)) movement place) × (inRange (movementKind place) r ≡ true) ⌝ }
+{
+    movement_entry(entries, movement, place)
+}
+
+// The same of an approach.
+pub fn approach_value(entries: &[u32], approach: usize, place: usize) -> u32
+    requires { ⌜ (judged (now entries) ≡ Accepted) × (approach < approachCount) × (place < approachEntries) ⌝ }
+    ensures { λ r. ⌜ (r ≡ approachEntry (now (entries .entry)) approach place) × (inRange (approachKind place) r ≡ true) ⌝ }
+{
+    approach_entry(entries, approach, place)
 }
 
 // The cycle's entry.

@@ -30,8 +30,8 @@ limitsOf PedestrianTime = 0 to 60000 usually 0
 limitsOf FreeRight = 0 to 1 usually 0
 limitsOf Cycle = 30 to 240 usually 120
 
--- an entry of this kind is "in range"
-unfoldable pub inRange : Kind → ℕ → Bool
+-- an entry of this kind is "in range": all that judging, the constructors and their callers ask of a number
+abbrev pub inRange : Kind → ℕ → Bool
 inRange k x = cond (leb (limitsOf k .least) x) (leb x (limitsOf k .most)) false
 
 -- the same as two facts, for those who lean on it

@@ -1,7 +1,10 @@
 // The kinds of entries: each is a type that knows its limits and its usual value.
 //
-// A limit is typed here, at its kind, and everything else asks the kind.
+// A limit is typed here, at its kind, and everything else asks the kind. A value of a kind is made here too: by `new`, of a
+// number that the kind takes, which it keeps as it is, or by `usual`. Each kind has a second field of no content that no other
+// crate can fill, so no other crate makes a value without them; the first is there to be read.
 ghost use mathlib.Core.Path.{_≡_};
+ghost use mathlib.Core.Bool.{true};
 ghost use Prim.Native.Nat.{_<_};
 ghost use Rattle.layout.specs.Entries.{movementEntries, approachEntries, groupCount};
 ghost use Rattle.kinds.specs.Kinds.{limitsOf, inRange, movementKind, approachKind, kindAt, groupAt, groupOf};
@@ -16,7 +19,7 @@ pub struct Limits {
 }
 
 // Lanes of a movement.
-pub struct Lanes(pub u32);
+pub struct Lanes(pub u32, ());
 
 impl Lanes {
     pub const LIMITS: Limits = Limits {
@@ -25,15 +28,22 @@ impl Lanes {
         usual: 0,
     };
 
+    pub fn new(value: u32) -> Lanes
+        requires { ⌜ inRange Kind.Lanes value ≡ true ⌝ }
+        ensures { λ r. ⌜ r .0 ≡ value ⌝ }
+    {
+        Lanes(value, ())
+    }
+
     pub fn usual() -> Lanes
         ensures { λ r. ⌜ r .0 ≡ limitsOf Kind.Lanes .usual ⌝ }
     {
-        Lanes(Lanes::LIMITS.usual)
+        Lanes::new(Lanes::LIMITS.usual)
     }
 }
 
 // Vehicles per hour of a movement.
-pub struct Volume(pub Vph);
+pub struct Volume(pub Vph, ());
 
 impl Volume {
     pub const LIMITS: Limits = Limits {
@@ -42,15 +52,22 @@ impl Volume {
         usual: 0,
     };
 
+    pub fn new(value: u32) -> Volume
+        requires { ⌜ inRange Kind.Volume value ≡ true ⌝ }
+        ensures { λ r. ⌜ r .0 .0 ≡ value ⌝ }
+    {
+        Volume(Vph(value), ())
+    }
+
     pub fn usual() -> Volume
         ensures { λ r. ⌜ r .0 .0 ≡ limitsOf Kind.Volume .usual ⌝ }
     {
-        Volume(Vph(Volume::LIMITS.usual))
+        Volume::new(Volume::LIMITS.usual)
     }
 }
 
 // Ideal flow of one lane of a movement.
-pub struct IdealFlow(pub Vph);
+pub struct IdealFlow(pub Vph, ());
 
 impl IdealFlow {
     pub const LIMITS: Limits = Limits {
@@ -59,15 +76,22 @@ impl IdealFlow {
         usual: 1_900,
     };
 
+    pub fn new(value: u32) -> IdealFlow
+        requires { ⌜ inRange Kind.IdealFlow value ≡ true ⌝ }
+        ensures { λ r. ⌜ r .0 .0 ≡ value ⌝ }
+    {
+        IdealFlow(Vph(value), ())
+    }
+
     pub fn usual() -> IdealFlow
         ensures { λ r. ⌜ r .0 .0 ≡ limitsOf Kind.IdealFlow .usual ⌝ }
     {
-        IdealFlow(Vph(IdealFlow::LIMITS.usual))
+        IdealFlow::new(IdealFlow::LIMITS.usual)
     }
 }
 
 // Time that a movement loses as it starts and clears.
-pub struct LostTime(pub Ms);
+pub struct LostTime(pub Ms, ());
 
 impl LostTime {
     pub const LIMITS: Limits = Limits {
@@ -76,15 +100,22 @@ impl LostTime {
         usual: 4_000,
     };
 
+    pub fn new(value: u32) -> LostTime
+        requires { ⌜ inRange Kind.LostTime value ≡ true ⌝ }
+        ensures { λ r. ⌜ r .0 .0 ≡ value ⌝ }
+    {
+        LostTime(Ms(value), ())
+    }
+
     pub fn usual() -> LostTime
         ensures { λ r. ⌜ r .0 .0 ≡ limitsOf Kind.LostTime .usual ⌝ }
     {
-        LostTime(Ms(LostTime::LIMITS.usual))
+        LostTime::new(LostTime::LIMITS.usual)
     }
 }
 
 // The least green of a movement.
-pub struct MinimumGreen(pub Ms);
+pub struct MinimumGreen(pub Ms, ());
 
 impl MinimumGreen {
     pub const LIMITS: Limits = Limits {
@@ -93,15 +124,22 @@ impl MinimumGreen {
         usual: 4_000,
     };
 
+    pub fn new(value: u32) -> MinimumGreen
+        requires { ⌜ inRange Kind.MinimumGreen value ≡ true ⌝ }
+        ensures { λ r. ⌜ r .0 .0 ≡ value ⌝ }
+    {
+        MinimumGreen(Ms(value), ())
+    }
+
     pub fn usual() -> MinimumGreen
         ensures { λ r. ⌜ r .0 .0 ≡ limitsOf Kind.MinimumGreen .usual ⌝ }
     {
-        MinimumGreen(Ms(MinimumGreen::LIMITS.usual))
+        MinimumGreen::new(MinimumGreen::LIMITS.usual)
     }
 }
 
 // 1 where the approach has a lane shared by left and through.
-pub struct SharedLane(pub u32);
+pub struct SharedLane(pub u32, ());
 
 impl SharedLane {
     pub const LIMITS: Limits = Limits {
@@ -110,15 +148,22 @@ impl SharedLane {
         usual: 0,
     };
 
+    pub fn new(value: u32) -> SharedLane
+        requires { ⌜ inRange Kind.SharedLane value ≡ true ⌝ }
+        ensures { λ r. ⌜ r .0 ≡ value ⌝ }
+    {
+        SharedLane(value, ())
+    }
+
     pub fn usual() -> SharedLane
         ensures { λ r. ⌜ r .0 ≡ limitsOf Kind.SharedLane .usual ⌝ }
     {
-        SharedLane(SharedLane::LIMITS.usual)
+        SharedLane::new(SharedLane::LIMITS.usual)
     }
 }
 
 // Pedestrians per hour who cross with the approach's through.
-pub struct Pedestrians(pub u32);
+pub struct Pedestrians(pub u32, ());
 
 impl Pedestrians {
     pub const LIMITS: Limits = Limits {
@@ -127,15 +172,22 @@ impl Pedestrians {
         usual: 0,
     };
 
+    pub fn new(value: u32) -> Pedestrians
+        requires { ⌜ inRange Kind.Pedestrians value ≡ true ⌝ }
+        ensures { λ r. ⌜ r .0 ≡ value ⌝ }
+    {
+        Pedestrians(value, ())
+    }
+
     pub fn usual() -> Pedestrians
         ensures { λ r. ⌜ r .0 ≡ limitsOf Kind.Pedestrians .usual ⌝ }
     {
-        Pedestrians(Pedestrians::LIMITS.usual)
+        Pedestrians::new(Pedestrians::LIMITS.usual)
     }
 }
 
 // 1 where those pedestrians have a button.
-pub struct PushButton(pub u32);
+pub struct PushButton(pub u32, ());
 
 impl PushButton {
     pub const LIMITS: Limits = Limits {
@@ -144,15 +196,22 @@ impl PushButton {
         usual: 0,
     };
 
+    pub fn new(value: u32) -> PushButton
+        requires { ⌜ inRange Kind.PushButton value ≡ true ⌝ }
+        ensures { λ r. ⌜ r .0 ≡ value ⌝ }
+    {
+        PushButton(value, ())
+    }
+
     pub fn usual() -> PushButton
         ensures { λ r. ⌜ r .0 ≡ limitsOf Kind.PushButton .usual ⌝ }
     {
-        PushButton(PushButton::LIMITS.usual)
+        PushButton::new(PushButton::LIMITS.usual)
     }
 }
 
 // Time that those pedestrians take to cross.
-pub struct PedestrianTime(pub Ms);
+pub struct PedestrianTime(pub Ms, ());
 
 impl PedestrianTime {
     pub const LIMITS: Limits = Limits {
@@ -161,15 +220,22 @@ impl PedestrianTime {
         usual: 0,
     };
 
+    pub fn new(value: u32) -> PedestrianTime
+        requires { ⌜ inRange Kind.PedestrianTime value ≡ true ⌝ }
+        ensures { λ r. ⌜ r .0 .0 ≡ value ⌝ }
+    {
+        PedestrianTime(Ms(value), ())
+    }
+
     pub fn usual() -> PedestrianTime
         ensures { λ r. ⌜ r .0 .0 ≡ limitsOf Kind.PedestrianTime .usual ⌝ }
     {
-        PedestrianTime(Ms(PedestrianTime::LIMITS.usual))
+        PedestrianTime::new(PedestrianTime::LIMITS.usual)
     }
 }
 
 // 1 where the right turn leaves into a lane of its own.
-pub struct FreeRight(pub u32);
+pub struct FreeRight(pub u32, ());
 
 impl FreeRight {
     pub const LIMITS: Limits = Limits {
@@ -178,15 +244,22 @@ impl FreeRight {
         usual: 0,
     };
 
+    pub fn new(value: u32) -> FreeRight
+        requires { ⌜ inRange Kind.FreeRight value ≡ true ⌝ }
+        ensures { λ r. ⌜ r .0 ≡ value ⌝ }
+    {
+        FreeRight(value, ())
+    }
+
     pub fn usual() -> FreeRight
         ensures { λ r. ⌜ r .0 ≡ limitsOf Kind.FreeRight .usual ⌝ }
     {
-        FreeRight(FreeRight::LIMITS.usual)
+        FreeRight::new(FreeRight::LIMITS.usual)
     }
 }
 
 // The reference cycle, in seconds.
-pub struct Cycle(pub u32);
+pub struct Cycle(pub u32, ());
 
 impl Cycle {
     pub const LIMITS: Limits = Limits {
@@ -195,10 +268,17 @@ impl Cycle {
         usual: 120,
     };
 
+    pub fn new(value: u32) -> Cycle
+        requires { ⌜ inRange Kind.Cycle value ≡ true ⌝ }
+        ensures { λ r. ⌜ r .0 ≡ value ⌝ }
+    {
+        Cycle(value, ())
+    }
+
     pub fn usual() -> Cycle
         ensures { λ r. ⌜ r .0 ≡ limitsOf Kind.Cycle .usual ⌝ }
     {
-        Cycle(Cycle::LIMITS.usual)
+        Cycle::new(Cycle::LIMITS.usual)
     }
 }
 
@@ -232,6 +312,25 @@ impl Kind {
             Kind::PedestrianTime => PedestrianTime::LIMITS,
             Kind::FreeRight => FreeRight::LIMITS,
             Kind::Cycle => Cycle::LIMITS,
+        }
+    }
+
+    // The value that is usual, as a number.
+    pub fn usual(self) -> u32
+        ensures { λ r. ⌜ r ≡ limitsOf self .usual ⌝ }
+    {
+        match self {
+            Kind::Lanes => Lanes::usual().0,
+            Kind::Volume => Volume::usual().0.0,
+            Kind::IdealFlow => IdealFlow::usual().0.0,
+            Kind::LostTime => LostTime::usual().0.0,
+            Kind::MinimumGreen => MinimumGreen::usual().0.0,
+            Kind::SharedLane => SharedLane::usual().0,
+            Kind::Pedestrians => Pedestrians::usual().0,
+            Kind::PushButton => PushButton::usual().0,
+            Kind::PedestrianTime => PedestrianTime::usual().0.0,
+            Kind::FreeRight => FreeRight::usual().0,
+            Kind::Cycle => Cycle::usual().0,
         }
     }
 

@@ -6,6 +6,14 @@
 // EB, WB, NB, SB.
 pub const APPROACHES: usize = 4;
 
+pub const EB: usize = 0;
+
+pub const WB: usize = 1;
+
+pub const NB: usize = 2;
+
+pub const SB: usize = 3;
+
 // Left, through and right of each.
 pub const GROUPS: usize = 3;
 

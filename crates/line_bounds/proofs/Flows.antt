@@ -8,7 +8,7 @@ use native.Mathlib.Decide.{decLt}
 use native.Mathlib.Omega.{arith}
 use lib.Dec.{eqb, lit≤}
 use borrow.Author.Tests.{eqb-true, eqb-false, eq-eqb}
-use Rattle.units.specs.Unit.{flowUnit}
+use Rattle.units.specs.Unit.{flowUnit, whole}
 use Rattle.layout.specs.Entries.{groupCount}
 use Rattle.kinds.specs.declared.Group.{Group}
 use Rattle.kinds.specs.declared.Group.the-variants.{Left, Through, Right}
@@ -20,7 +20,7 @@ use Rattle.procedure.specs.declared.Approach.{Approach}
 use Rattle.procedure.specs.Approach.{n, v, i, isShared}
 use Rattle.procedure.specs.Lines.{a, b, volume, vC, vST, turningT, fT, flowOf, f, flow, turningST, sST, sSL}
 use Rattle.procedure.specs.Ranges.{Fair}
-use Rattle.line_bounds.specs.Bounds.{whole, mostVolume, leastTurning, leastStraight, leastFactor, mostFactor, leastLaneFlow, mostFlow, mostServed}
+use Rattle.line_bounds.specs.Bounds.{mostVolume, leastTurning, leastStraight, leastFactor, mostFactor, leastLaneFlow, mostFlow, mostServed}
 use Rattle.line_bounds.proofs.Numbers.{Between, quotient-between}
 
 -- ---- over plain numbers

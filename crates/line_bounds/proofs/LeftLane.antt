@@ -10,7 +10,7 @@ use lib.Dec.{eqb}
 use borrow.Author.Tests.{eqb-true, eqb-false, ltb-true}
 use Rattle.units.specs.Rounding.{up}
 use Rattle.units.proofs.Laws.{up-most}
-use Rattle.units.specs.Unit.{flowUnit}
+use Rattle.units.specs.Unit.{flowUnit, whole}
 use Rattle.lists.proofs.Tests.{both-true}
 use Rattle.kinds.specs.declared.Kind.the-variants.{Cycle}
 use Rattle.kinds.specs.declared.Group.the-variants.{Left, Through, Right}
@@ -19,7 +19,7 @@ use Rattle.procedure.specs.declared.Approach.{Approach}
 use Rattle.procedure.specs.Approach.{n, v, isShared}
 use Rattle.procedure.specs.Ranges.{Fair, FairCycle}
 use Rattle.procedure.specs.Lines.{b, vC, flow, heaviest, vLL, q, single, leftShare, equivalent, E, flowA, sA}
-use Rattle.line_bounds.specs.Bounds.{whole, mostVolume, leastLaneFlow, mostFlow, mostNum}
+use Rattle.line_bounds.specs.Bounds.{mostVolume, leastLaneFlow, mostFlow, mostNum}
 use Rattle.line_bounds.specs.Bounds.{mostEquivalent, leastParts, mostParts, leastMixed, mostMixed, mostMixedServed}
 use Rattle.line_bounds.proofs.Numbers.{up-least, shared-out, chosen-most}
 use Rattle.line_bounds.proofs.Flows.{Volumes, volumes, parted, group-serving}
@@ -79,26 +79,26 @@ equivalent-alike q o CL h e = go (decLt 0 q) (decLt q whole)
         rw (alone, none, zero-mul) (omega arith)
 
 -- the inner quotient of line 22, of a lane of lefts alone
-pub parts-of-lefts : (E : ℕ) → 1_000_000_000_000 / (100_000_000 + whole * E - 10_000 * whole) ≡ 100_000_000 / E
+pub parts-of-lefts : (E : ℕ) → 1_000_000_000_000 / (100_000_000 + whole * E - whole * whole) ≡ 100_000_000 / E
 parts-of-lefts E =
-    let under : 100_000_000 + whole * E - 10_000 * whole ≡ 10_000 * E = omega arith in
-    rw under (mul-div-mul-left {m = 10_000} 100_000_000 E (omega arith))
+    let under : 100_000_000 + whole * E - whole * whole ≡ whole * E = omega arith in
+    rw under (mul-div-mul-left {m = whole} 100_000_000 E (omega arith))
 
 -- without lefts a lane has its part of line 6
 pub flowA-none : (flow E n : ℕ) → flowA flow 0 E n ≡ flow / n
 unfolding flowA
-flowA-none flow E n = rw (zero-mul E) (mul-div-mul-right {m = 10_000} flow n (omega arith))
+flowA-none flow E n = rw (zero-mul E) (mul-div-mul-right {m = whole} flow n (omega arith))
 
 -- what line 22 goes through: 10⁸ + q(E−10⁴) is never below 10⁴
 pub record PartsRoom (q E : ℕ) : Type 0 where
   pub product : q * E ≤ whole * mostEquivalent
-  pub under-least : 10_000 ≤ 100_000_000 + q * E - 10_000 * q
-  pub least : leastParts ≤ 1_000_000_000_000 / (100_000_000 + q * E - 10_000 * q)
-  pub most : 1_000_000_000_000 / (100_000_000 + q * E - 10_000 * q) ≤ mostParts
+  pub under-least : whole ≤ 100_000_000 + q * E - whole * q
+  pub least : leastParts ≤ 1_000_000_000_000 / (100_000_000 + q * E - whole * q)
+  pub most : 1_000_000_000_000 / (100_000_000 + q * E - whole * q) ≤ mostParts
 
 pub parts-room : (q E : ℕ) → q ≤ whole → 1 ≤ E → E ≤ mostEquivalent → PartsRoom q E
 parts-room q E h l k =
-    let U = 100_000_000 + q * E - 10_000 * q in
+    let U = 100_000_000 + q * E - whole * q in
     let product : q * E ≤ whole * mostEquivalent = mul-le-mul h k in
     let enough : q ≤ q * E = le-mul-of-pos-right q l in
     record {
@@ -110,7 +110,7 @@ parts-room q E h l k =
 
 -- and where it ends
 pub record FlowARoom (flow q E n : ℕ) : Type 0 where
-  pub over : flow * (1_000_000_000_000 / (100_000_000 + q * E - 10_000 * q)) ≤ mostFlow * mostParts
+  pub over : flow * (1_000_000_000_000 / (100_000_000 + q * E - whole * q)) ≤ mostFlow * mostParts
   pub least : leastMixed ≤ flowA flow q E n
   pub most : flowA flow q E n ≤ mostMixed
 
@@ -119,13 +119,13 @@ pub flowA-room :
 unfolding flowA
 flowA-room flow q E n f h l k p e =
     let parts = parts-room q E h l k in
-    let P = 1_000_000_000_000 / (100_000_000 + q * E - 10_000 * q) in
+    let P = 1_000_000_000_000 / (100_000_000 + q * E - whole * q) in
     let over : flow * P ≤ mostFlow * mostParts = mul-le-mul f (parts .most) in
     let carried : leastLaneFlow * n * leastParts ≤ flow * P = mul-le-mul e (parts .least) in
     record {
       over = over;
-      least = le-div-iff-mul-le {k = n * 10_000} {x = leastMixed} {y = flow * P} (omega arith) .1 (omega arith);
-      most = div-le-of-le-mul (n * 10_000) (omega arith);
+      least = le-div-iff-mul-le {k = n * whole} {x = leastMixed} {y = flow * P} (omega arith) .1 (omega arith);
+      most = div-le-of-le-mul (n * whole) (omega arith);
     }
 
 -- what a lane's volume is beside the flow of line 22, whatever its share of lefts

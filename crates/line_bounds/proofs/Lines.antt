@@ -16,7 +16,8 @@ use Rattle.kinds.specs.Working.{mostOf}
 use Rattle.procedure.specs.declared.Approach.{Approach}
 use Rattle.procedure.specs.Ranges.{Fair, FairCycle}
 use Rattle.procedure.specs.Lines.{firstLines, laterLines, lines}
-use Rattle.line_bounds.specs.Bounds.{whole, mostVolume, mostFlow, mostHeld, mostReference, mostAdjusted, mostEquivalent, mostMixed, Bounded}
+use Rattle.units.specs.Unit.{whole}
+use Rattle.line_bounds.specs.Bounds.{mostVolume, mostFlow, mostHeld, mostReference, mostAdjusted, mostEquivalent, mostMixed, Bounded}
 use Rattle.line_bounds.proofs.Flows.{volumes, factor-between, group-serving, straight-serving, lefts-serving}
 use Rattle.line_bounds.proofs.Times.{interference-most, F-most, reference-most, adjusted-most, line27-most, line28-most}
 use Rattle.line_bounds.proofs.LeftLane.{carried}

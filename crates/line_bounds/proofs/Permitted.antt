@@ -9,7 +9,7 @@ use lib.Dec.{eqb}
 use borrow.Author.Tests.{eqb-true, eqb-false, ne-eqb}
 use Rattle.units.specs.Rounding.{up}
 use Rattle.units.proofs.Laws.{up-most}
-use Rattle.units.specs.Unit.{flowUnit}
+use Rattle.units.specs.Unit.{flowUnit, whole}
 use Rattle.layout.specs.Sheet.{BLANK}
 use Rattle.kinds.specs.declared.Kind.the-variants.{Lanes, Cycle}
 use Rattle.kinds.specs.declared.Group.the-variants.{Left, Through}
@@ -19,8 +19,8 @@ use Rattle.procedure.specs.Approach.{n, v, i, isShared}
 use Rattle.procedure.specs.Ranges.{Fair, FairCycle}
 use Rattle.procedure.specs.Lines.{a, b, volume, vC, vST, fT, flowOf, flow, sST}
 use Rattle.procedure.specs.Lines.{sSL, interference, time, weighted, vLL, leftShare, sA, optionAOf, leftA, optionA}
-use Rattle.procedure.specs.Lines.{allowedA, allowedB, empty, line23, line24, line25, line26, sB, throughB, optionB, lesser}
-use Rattle.line_bounds.specs.Bounds.{whole, mostVolume, leastStraight, mostServed, mostHeld}
+use Rattle.procedure.specs.Lines.{allowedA, allowedB, empty, line23, line24, line25, line26, sB, waiting, throughB, optionB, lesser}
+use Rattle.line_bounds.specs.Bounds.{mostVolume, leastStraight, mostServed, mostHeld}
 use Rattle.line_bounds.specs.Bounds.{mostMixedServed, mostAdded, mostOption, mostPermitted, Timely}
 use Rattle.line_bounds.proofs.Numbers.{up-covers, shared-out, part-most}
 use Rattle.line_bounds.proofs.Flows.{volumes, turning-between, straight-between, straight-alike, group-serving}
@@ -82,7 +82,7 @@ sB-most s fair = go (isShared s) refl
     go false e = rw e (le-of-eq (sym (straight-alike s (unfolded s e))))
 
 -- what is taken off for the cars beside a waiting left is no more than the 8 seconds
-pub waits-most : (beside flow : ℕ) → beside ≤ flow → 8_000 * beside / flow ≤ 8_000
+pub waits-most : (beside flow : ℕ) → beside ≤ flow → waiting * beside / flow ≤ waiting
 waits-most beside flow h = div-le-of-le-mul flow (omega arith)
 
 -- ---- a lane that is no faster takes no less time
@@ -186,7 +186,7 @@ module _ (s : Approach) (CL : ℕ) (fair : Fair s) (cycle : FairCycle CL) where
       let lefts = passes-most (lefts-pass s CL fair cycle) in
       let held = interference-most s CL Through in
       let through : throughB (vST s) (sST s) (sB s) (interference s Through CL) CL ≤ mostOption = omega (arith, straight, held) in
-      let left : 8_000 + time (v s Left) CL (sSL s) ≤ mostOption = omega (arith, lefts) in
+      let left : waiting + time (v s Left) CL (sSL s) ≤ mostOption = omega (arith, lefts) in
       omega (arith, part-most (vST s) (λ some. through), part-most (v s Left) (λ some. left))
 
   module _ (o : Approach) where

@@ -8,7 +8,7 @@ use lib.Dec.{eqb, ltb}
 use borrow.Author.Tests.{eqb-true}
 use Rattle.units.specs.Rounding.{up}
 use Rattle.units.proofs.Laws.{up-most}
-use Rattle.units.specs.Unit.{flowUnit}
+use Rattle.units.specs.Unit.{flowUnit, whole}
 use Rattle.lists.proofs.Tests.{both-true}
 use Rattle.kinds.specs.declared.Kind.the-variants.{LostTime, MinimumGreen, Pedestrians, PedestrianTime, Cycle}
 use Rattle.kinds.specs.declared.Group.{Group}
@@ -21,7 +21,7 @@ use Rattle.procedure.specs.Approach.{n, v, p, lost, green, crossing, hasButton}
 use Rattle.procedure.specs.Lines.{volume, vC, vST, flow, sST, sSL, G, interference, frequency, F, time, reference, adjustedOf, weightedOf, weighted, adjusted}
 use Rattle.procedure.specs.Lines.{empty, line27, line28}
 use Rattle.procedure.specs.Ranges.{Fair, FairCycle}
-use Rattle.line_bounds.specs.Bounds.{whole, mostVolume, mostServed, Passes, mostHeld, mostTime, mostReference, mostAdded, mostAdjusted}
+use Rattle.line_bounds.specs.Bounds.{mostVolume, mostServed, Passes, mostHeld, mostTime, mostReference, mostAdded, mostAdjusted}
 use Rattle.line_bounds.proofs.Numbers.{chosen-most, part-most}
 use Rattle.line_bounds.proofs.Flows.{rights-within, volumes, group-serving, straight-serving, lefts-serving}
 

@@ -2,17 +2,13 @@
 use mathlib.Core.Path.{_≡_}
 use mathlib.Core.List.{List}
 use Prim.Native.Nat.{ℕ, _+_, _*_, _/_, _≤_, max}
-use Rattle.units.specs.Unit.{flowUnit}
+use Rattle.units.specs.Unit.{flowUnit, whole}
 use Rattle.layout.specs.Entries.{groupCount}
 use Rattle.layout.specs.Sheet.{BLANK}
 use Rattle.kinds.specs.declared.Kind.the-variants.{Lanes, Volume, IdealFlow, LostTime, MinimumGreen, PedestrianTime, Cycle}
 use Rattle.kinds.specs.Kinds.{limitsOf}
 use Rattle.kinds.specs.Working.{mostOf}
 use Rattle.procedure.specs.Pairs.{line}
-
--- factors, shares and frequencies are ten-thousandths
-abbrev pub whole : ℕ
-whole = 10_000
 
 -- lines 1–3: all that an approach's movements count (29,997)
 abbrev pub mostVolume : ℕ
@@ -83,14 +79,14 @@ abbrev pub leastParts : ℕ
 leastParts = 1_000_000_000_000 / (100_000_000 + whole * mostEquivalent)
 
 abbrev pub mostParts : ℕ
-mostParts = 1_000_000_000_000 / 10_000
+mostParts = 1_000_000_000_000 / whole
 
 -- and what the lane carries (4 and 144,000,000)
 abbrev pub leastMixed : ℕ
-leastMixed = leastLaneFlow * leastParts / 10_000
+leastMixed = leastLaneFlow * leastParts / whole
 
 abbrev pub mostMixed : ℕ
-mostMixed = mostFlow * mostParts / 10_000
+mostMixed = mostFlow * mostParts / whole
 
 -- how many times that flow a volume can be (7,500)
 abbrev pub mostMixedServed : ℕ

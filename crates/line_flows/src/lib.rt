@@ -7,7 +7,8 @@ ghost use Rattle.kinds.specs.declared.Group.the-variants.{Left, Through};
 ghost use Rattle.kinds.specs.Working.{mostOf};
 ghost use Rattle.procedure.specs.Lines.{turningT, turningST, flowOf, flow, sST, sSL};
 ghost use Rattle.procedure.specs.Ranges.{Fair};
-ghost use Rattle.line_bounds.specs.Bounds.{whole, mostVolume};
+ghost use Rattle.units.specs.Unit.{whole};
+ghost use Rattle.line_bounds.specs.Bounds.{mostVolume};
 ghost use Rattle.line_stages.specs.Stages.{volumesOf, flowsOf};
 use kinds::Group;
 use kinds::Lanes;
@@ -16,9 +17,6 @@ use line_stages::Volumes;
 use procedure::Approach;
 use units::Flow;
 use units::Vph;
-
-// What is left of a flow where nothing turns, in ten-thousandths.
-const WHOLE: u32 = 10_000;
 
 // What the product of a flow is divided by: factors in thousandths and ten-thousandths, in the flows' unit.
 const PRODUCT: u64 = 10_000_000 / units::FLOW_UNIT;
@@ -61,7 +59,7 @@ fn straight_turning_of(straight: Vph, right: Vph) -> u32
     ensures { λ r. ⌜ r ≡ turningST (straight .0) (right .0) ⌝ }
 {
     if right.0 == 0 {
-        return WHOLE;
+        return units::WHOLE;
     }
     100 * (100 * straight.0 - 15 * right.0) / straight.0
 }
@@ -99,7 +97,7 @@ fn lefts_of(s: Approach, left: Flow) -> Flow
     ensures { λ r. ⌜ r .0 ≡ sSL s ⌝ }
 {
     if s.shared.0 == 1 {
-        return flow_of(Group::Left, s.left.ideal.0, Lanes(1), LEFT);
+        return flow_of(Group::Left, s.left.ideal.0, Lanes::new(1), LEFT);
     }
     left
 }

@@ -1,14 +1,14 @@
 // Formulas that several lines share: a time from a volume and its flow, and the two ways in which a time is adjusted.
 ghost use mathlib.Core.Path.{_≡_};
 ghost use Prim.Native.Nat.{_*_, _+_, _≤_, max};
-ghost use Rattle.units.specs.Unit.{flowUnit};
+ghost use Rattle.units.specs.Unit.{flowUnit, whole};
 ghost use Rattle.kinds.specs.declared.Group.the-variants.{Through};
 ghost use Rattle.kinds.specs.declared.Kind.the-variants.{LostTime, MinimumGreen, Cycle as CycleKind};
 ghost use Rattle.kinds.specs.Working.{mostOf};
 ghost use Rattle.procedure.specs.Approach.{lost, green, crossing};
 ghost use Rattle.procedure.specs.Lines.{time, part, adjustedOf, weightedOf};
 ghost use Rattle.procedure.specs.Ranges.{Fair};
-ghost use Rattle.line_bounds.specs.Bounds.{whole, mostVolume, mostHeld, mostMixed, mostMixedServed, mostReference, mostOption, Passes};
+ghost use Rattle.line_bounds.specs.Bounds.{mostVolume, mostHeld, mostMixed, mostMixedServed, mostReference, mostOption, Passes};
 use kinds::Cycle;
 use procedure::Approach;
 use units::Flow;
@@ -17,6 +17,9 @@ use units::Vph;
 
 // Milliseconds of a second, in the flows' unit.
 const THOUSAND: u64 = 1000 * units::FLOW_UNIT;
+
+// A whole, in products of 64 bits.
+const WHOLE: u64 = units::WHOLE as u64;
 
 // 1000·v·CL/flow, up, of a flow that carries at least a small part of the volume.
 pub fn time_for(volume: Vph, cycle: Cycle, flow: Flow) -> Ms
@@ -64,6 +67,6 @@ pub fn weigh(s: Approach, frequency: u32, reference: Ms) -> Ms
 {
     let a = larger(s.through.green.0, reference);
     let b = larger(a, s.crossing.0);
-    let walking = units::divide_up((b.0 - a.0) as u64 * frequency as u64, 10_000);
+    let walking = units::divide_up((b.0 - a.0) as u64 * frequency as u64, WHOLE);
     Ms(s.through.lost.0.0 + a.0 + walking as u32)
 }

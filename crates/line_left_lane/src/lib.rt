@@ -6,7 +6,8 @@ ghost use Rattle.kinds.specs.declared.Kind.the-variants.{Lanes as LaneKind};
 ghost use Rattle.kinds.specs.Working.{mostOf};
 ghost use Rattle.procedure.specs.Ranges.{Fair, FairCycle};
 ghost use Rattle.procedure.specs.Lines.{heaviest, equivalent, flowA};
-ghost use Rattle.line_bounds.specs.Bounds.{whole, mostVolume, leastLaneFlow, mostFlow, mostEquivalent};
+ghost use Rattle.units.specs.Unit.{whole};
+ghost use Rattle.line_bounds.specs.Bounds.{mostVolume, leastLaneFlow, mostFlow, mostEquivalent};
 ghost use Rattle.line_stages.specs.Stages.{volumesOf, flowsOf, meetingOf, leftLaneOf};
 use kinds::Cycle;
 use kinds::Lanes;
@@ -17,6 +18,9 @@ use line_stages::Volumes;
 use procedure::Approach;
 use units::Flow;
 use units::Vph;
+
+// A whole, in products of 64 bits.
+const WHOLE: u64 = units::WHOLE as u64;
 
 // a / b, rounded up, of small numbers.
 pub fn share_out(a: u32, b: u32) -> u32
@@ -46,7 +50,7 @@ fn share_of_lefts(lefts: Vph, lane: Vph) -> u32
     if lefts.0 == 0 {
         return 0;
     }
-    share_out(10_000 * lefts.0, lane.0)
+    share_out(units::WHOLE * lefts.0, lane.0)
 }
 
 // Line 21, of a share of lefts and the oncoming share. With nothing oncoming, no lefts and all lefts have the same.
@@ -54,24 +58,24 @@ pub fn equivalent_of(share: u32, oncoming: u32, cycle: Cycle) -> u32
     requires { ⌜ (share ≤ whole) × (oncoming ≤ whole) × (FairCycle (cycle .0)) ⌝ }
     ensures { λ r. ⌜ r ≡ equivalent share oncoming (cycle .0) ⌝ }
 {
-    if oncoming + share * (10_000 - share) == 0 {
+    if oncoming + share * (units::WHOLE - share) == 0 {
         return 2_500 * cycle.0;
     }
     let q = share as u64;
     let over = (500_000_000 + 80_000 * q - 3 * (q * q)) * cycle.0 as u64;
-    let under = 10 * (2 * (10_000 + q) + oncoming as u64 * cycle.0 as u64);
+    let under = 10 * (2 * (WHOLE + q) + oncoming as u64 * cycle.0 as u64);
     units::divide_up(over, under) as u32
 }
 
 // The inner quotient of line 22, whose divisor is 10⁴·E where all turn left.
 fn parts_of(share: u32, equivalent: u32) -> u32
     requires { ⌜ (share ≤ whole) × (1 ≤ equivalent) × (equivalent ≤ mostEquivalent) ⌝ }
-    ensures { λ r. ⌜ r ≡ 1_000_000_000_000 / (100_000_000 + share * equivalent - 10_000 * share) ⌝ }
+    ensures { λ r. ⌜ r ≡ 1_000_000_000_000 / (100_000_000 + share * equivalent - whole * share) ⌝ }
 {
-    if share == 10_000 {
+    if share == units::WHOLE {
         return 100_000_000 / equivalent;
     }
-    let under = 100_000_000 + share as u64 * equivalent as u64 - 10_000 * share as u64;
+    let under = 100_000_000 + share as u64 * equivalent as u64 - WHOLE * share as u64;
     (1_000_000_000_000 / under) as u32
 }
 
@@ -85,7 +89,7 @@ pub fn flow_a(flow: Flow, share: u32, equivalent: u32, lanes: Lanes) -> Flow
         return Flow(flow.0 / lanes.0);
     }
     let carried = flow.0 as u64 * parts_of(share, equivalent) as u64;
-    Flow((carried / (lanes.0 as u64 * 10_000)) as u32)
+    Flow((carried / (lanes.0 as u64 * WHOLE)) as u32)
 }
 
 // Lines 19–22.

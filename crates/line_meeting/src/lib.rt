@@ -32,7 +32,7 @@ fn left_share(o: Approach, w: Volumes) -> u32
     ensures { λ r. ⌜ r ≡ leftShare o ⌝ }
 {
     if is_single(o) {
-        return 10_000 * w.foldedleft.0 / w.through.0;
+        return units::WHOLE * w.foldedleft.0 / w.through.0;
     }
     0
 }

@@ -4,13 +4,13 @@ ghost use mathlib.Core.Bool.{cond};
 ghost use Prim.Native.Nat.{_+_, _*_, _≤_, _<_};
 ghost use lib.Dec.{eqb};
 ghost use Rattle.units.specs.Rounding.{up};
-ghost use Rattle.units.specs.Unit.{flowUnit};
+ghost use Rattle.units.specs.Unit.{flowUnit, whole};
 ghost use Rattle.layout.specs.Sheet.{BLANK};
 ghost use Rattle.kinds.specs.declared.Group.the-variants.{Through};
 ghost use Rattle.procedure.specs.Approach.{lost, green, crossing};
 ghost use Rattle.procedure.specs.Ranges.{Fair, FairCycle};
-ghost use Rattle.procedure.specs.Lines.{part, time, allowedA, empty, equivalent, flowA, optionAOf, optionA, sB, throughB, optionB, lesser, weightedOf};
-ghost use Rattle.line_bounds.specs.Bounds.{whole, mostVolume, leastLaneFlow, mostHeld, mostMixed, mostMixedServed, mostOption, Passes, Timely};
+ghost use Rattle.procedure.specs.Lines.{part, time, allowedA, empty, equivalent, flowA, optionAOf, optionA, sB, waiting, throughB, optionB, lesser, weightedOf};
+ghost use Rattle.line_bounds.specs.Bounds.{mostVolume, leastLaneFlow, mostHeld, mostMixed, mostMixedServed, mostOption, Passes, Timely};
 ghost use Rattle.line_stages.specs.Stages.{volumesOf, flowsOf, firstOf, meetingOf, leftLaneOf, permittedOf};
 use kinds::Cycle;
 use kinds::Lanes;
@@ -27,6 +27,9 @@ use units::Vph;
 
 // Where an option is not allowed.
 const NOT_ALLOWED: Ms = Ms(layout::BLANK);
+
+// What line 24 starts with, in milliseconds: the time in which the lanes beside a waiting left move.
+const WAITING: u32 = 8_000;
 
 // The T or the L value of line 23, of its heaviest lane and the flow of that lane. Where that lane is the slower one, as a
 // rule, the group's own time is not needed.
@@ -59,8 +62,8 @@ fn left_option_a(volume: Vph, lanes: Lanes, flow: Flow, oncoming: u32, cycle: Cy
     let lane = Vph(line_left_lane::share_out(volume.0, lanes.0));
     let mixed = line_left_lane::flow_a(
         flow,
-        10_000,
-        line_left_lane::equivalent_of(10_000, oncoming, cycle),
+        units::WHOLE,
+        line_left_lane::equivalent_of(units::WHOLE, oncoming, cycle),
         lanes,
     );
     option_a_of(lane, mixed, volume, flow, Ms(0), cycle)
@@ -107,18 +110,18 @@ fn through_b(straight: Vph, flow: Flow, beside: Flow, held: Ms, cycle: Cycle) ->
         return Ms(0);
     }
     let clears = line_formulas::time_for(straight, cycle, flow);
-    Ms(8_000 + clears.0 - 8_000 * beside.0 / flow.0 + held.0)
+    Ms(WAITING + clears.0 - WAITING * beside.0 / flow.0 + held.0)
 }
 
 // The left half of line 24.
 fn left_b(lefts: Vph, flow: Flow, cycle: Cycle) -> Ms
     requires { ⌜ Passes (lefts .0) (cycle .0) (flow .0) ⌝ }
-    ensures { λ r. ⌜ r .0 ≡ part (lefts .0) (8_000 + time (lefts .0) (cycle .0) (flow .0)) ⌝ }
+    ensures { λ r. ⌜ r .0 ≡ part (lefts .0) (waiting + time (lefts .0) (cycle .0) (flow .0)) ⌝ }
 {
     if lefts.0 == 0 {
         return Ms(0);
     }
-    Ms(8_000 + line_formulas::time_for(lefts, cycle, flow).0)
+    Ms(WAITING + line_formulas::time_for(lefts, cycle, flow).0)
 }
 
 // Line 24 of an approach that has volume, worked out only where it is allowed.

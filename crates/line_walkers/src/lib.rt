@@ -74,9 +74,9 @@ fn walkers_frequency(p: Pedestrians, button: PushButton, cycle: Cycle) -> u32
         return 0;
     }
     if button.0 != 1 {
-        return 10_000;
+        return units::WHOLE;
     }
-    10_000 - (line_decay::decay_number(2 * p.0 as u64 * cycle.0 as u64) / 100_000) as u32
+    units::WHOLE - (line_decay::decay_number(2 * p.0 as u64 * cycle.0 as u64) / 100_000) as u32
 }
 
 // Lines 10–12.

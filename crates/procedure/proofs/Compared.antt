@@ -9,7 +9,7 @@ use Rattle.procedure.specs.Lines.{a, b, volume, vST, turningT, fT, flowO
 use Rattle.procedure.specs.Lines.{adjustedOf, weightedOf, weighted, adjusted, heaviest, vLL, q, single, leftShare, equivalent, E, flowA, sA}
 use Rattle.procedure.specs.Lines.{optionAOf, leftA, optionA, allowedA, allowedB, empty, line23, sB, throughB, optionB, line24, lesser, line25, line26}
 use Rattle.procedure.specs.Lines.{line27, line28, firstLines, laterLines, lines}
-use Rattle.procedure.specs.Pairs.{protected, permitted, split, picked, pair, throughTime, leftTime, rightTotal, icuOf, letterOf}
+use Rattle.procedure.specs.Pairs.{protected, permitted, split, picked, pair, throughTime, leftTime, rightTotal, icuOf, endsPassed}
 use Rattle.procedure.specs.Sheet.{linesAt, pairAt, rightAt, lastOf, lastAt, sheet}
 use Rattle.procedure.specs.Junctions.{workedOut, given}
 
@@ -17,6 +17,6 @@ pub compared : workedOut ≡ given
 unfolding up term turns faded decayNumber laneFactor movementEntry approachEntry readMovement readApproach a b volume vST turningT fT flowOf
     flow turningST sST sSL G interference frequency F time reference adjustedOf weightedOf weighted adjusted heaviest vLL q single leftShare
     equivalent E flowA sA optionAOf leftA optionA allowedA allowedB empty line23 sB throughB optionB line24 lesser line25 line26 line27
-    line28 firstLines laterLines lines protected permitted split picked pair throughTime leftTime rightTotal icuOf letterOf linesAt pairAt
+    line28 firstLines laterLines lines protected permitted split picked pair throughTime leftTime rightTotal icuOf endsPassed linesAt pairAt
     rightAt lastOf lastAt sheet
 compared = refl

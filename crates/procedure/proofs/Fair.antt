@@ -11,7 +11,8 @@ use borrow.Author.Tests.{eqb-true, eqb-false}
 use Rattle.answers.specs.declared.Answer.the-variants.{Accepted}
 use Rattle.kinds.specs.declared.Group.{Group}
 use Rattle.kinds.specs.declared.Group.the-variants.{Left, Through, Right}
-use Rattle.kinds.specs.Kinds.{Within, kindAt, movementKind, groupOf}
+use Rattle.kinds.specs.Kinds.{Within, kindAt, movementKind, approachKind, groupOf}
+use Rattle.kinds.proofs.Laws.{within}
 use Rattle.layout.specs.Entries.{approachCount, groupCount, movementCount, movementEntries, approachEntries, cycleEntry, left, through, right}
 use Rattle.layout.specs.Entries.{lanesNo, volumeNo, idealNo, lostNo, greenNo, sharedNo, walkersNo, crossingNo}
 use Rattle.entries.specs.Layout.{lanes, volume as counted, shared, cycle, movementEntry, approachEntry}
@@ -69,7 +70,10 @@ module _ (e : List ℕ) (ok : judged e ≡ Accepted) (k : ℕ) (few : k < approa
   is-read Right = refl
 
   at : (g : Group) (j : ℕ) → j < movementEntries → Within (movementKind j) (movementEntry e (movementNo k g) j)
-  at g j h = accepted-movement e ok (movementNo k g) j (movement-few k few g) h
+  at g j h = within _ _ (accepted-movement e ok (movementNo k g) j (movement-few k few g) h)
+
+  own : (j : ℕ) → j < approachEntries → Within (approachKind j) (approachEntry e k j)
+  own j h = within _ _ (accepted-approach e ok k j few h)
 
   fair-group : (g : Group) → FairGroup (readApproach e k) g
   unfolding readMovement
@@ -94,7 +98,7 @@ module _ (e : List ℕ) (ok : judged e ≡ Accepted) (k : ℕ) (few : k < approa
   unfolding readApproach readMovement volume a b movementNo otherLanes
   served Left h =
       ⊎-elim (λ w. omega arith)
-      (λ w. omega (arith, serves Left (w .1), eqb-false (shared e k) 1 (w .0), accepted-approach e ok k sharedNo few (lit< tt) .most))
+      (λ w. omega (arith, serves Left (w .1), eqb-false (shared e k) 1 (w .0), own sharedNo (lit< tt) .most))
       (positive (eqb (shared e k) 1) 0 (counted e (left k)) h)
   served Right h =
       ⊎-elim (λ w. omega arith) (λ w. omega (arith, eqb-false (lanes e (right k)) 0 (w .0)))
@@ -113,12 +117,12 @@ module _ (e : List ℕ) (ok : judged e ≡ Accepted) (k : ℕ) (few : k < approa
   fair =
       record {
         group = fair-group;
-        walkers = accepted-approach e ok k walkersNo few (lit< tt);
-        crossing = accepted-approach e ok k crossingNo few (lit< tt);
+        walkers = own walkersNo (lit< tt);
+        crossing = own crossingNo (lit< tt);
         served = served;
         shares = shared-through;
       }
 
 pub fair-cycle : (e : List ℕ) → judged e ≡ Accepted → FairCycle (cycle e)
 unfolding kindAt
-fair-cycle e ok = accepted-range e ok cycleEntry (lit< tt)
+fair-cycle e ok = within _ _ (accepted-range e ok cycleEntry (lit< tt))

@@ -10,15 +10,15 @@ use Rattle.entries.specs.Layout.{movementEntry, approachEntry}
 use Rattle.procedure.specs.declared.Movement.{Movement}
 use Rattle.procedure.specs.declared.Approach.{Approach}
 
--- "Movement m has entries 5m to 5m+4"
+-- "Movement m has entries 5m to 5m+4". (`1 = tt` is the field of no content that lets none but the kinds make their values.)
 unfoldable pub readMovement : List ℕ → ℕ → Movement
 readMovement e m =
     record {
-      lanes = record { 0 = movementEntry e m lanesNo };
-      volume = record { 0 = record { 0 = movementEntry e m volumeNo } };
-      ideal = record { 0 = record { 0 = movementEntry e m idealNo } };
-      lost = record { 0 = record { 0 = movementEntry e m lostNo } };
-      green = record { 0 = record { 0 = movementEntry e m greenNo } };
+      lanes = record { 0 = movementEntry e m lanesNo; 1 = tt };
+      volume = record { 0 = record { 0 = movementEntry e m volumeNo }; 1 = tt };
+      ideal = record { 0 = record { 0 = movementEntry e m idealNo }; 1 = tt };
+      lost = record { 0 = record { 0 = movementEntry e m lostNo }; 1 = tt };
+      green = record { 0 = record { 0 = movementEntry e m greenNo }; 1 = tt };
     }
 
 -- "Approach a has 60+5a onward"
@@ -28,11 +28,11 @@ readApproach e a =
       left = readMovement e (left a);
       through = readMovement e (through a);
       right = readMovement e (right a);
-      shared = record { 0 = approachEntry e a sharedNo };
-      walkers = record { 0 = approachEntry e a walkersNo };
-      button = record { 0 = approachEntry e a buttonNo };
-      crossing = record { 0 = record { 0 = approachEntry e a crossingNo } };
-      free = record { 0 = approachEntry e a freeNo };
+      shared = record { 0 = approachEntry e a sharedNo; 1 = tt };
+      walkers = record { 0 = approachEntry e a walkersNo; 1 = tt };
+      button = record { 0 = approachEntry e a buttonNo; 1 = tt };
+      crossing = record { 0 = record { 0 = approachEntry e a crossingNo }; 1 = tt };
+      free = record { 0 = approachEntry e a freeNo; 1 = tt };
     }
 
 abbrev pub movementOf : Approach → Group → Movement

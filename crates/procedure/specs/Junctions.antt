@@ -2,6 +2,7 @@
 use mathlib.Core.List.{List, [], _∷_, _++_}
 use Prim.Native.Nat.{ℕ, _*_}
 use lib.ListN.{getD, set}
+use Rattle.units.specs.Unit.{whole}
 use Rattle.line_decay.specs.Decay.{decayNumber}
 use Rattle.procedure.specs.Approach.{readApproach}
 use Rattle.procedure.specs.Lines.{leftShare, equivalent, leftA}
@@ -75,7 +76,7 @@ workedOut =
     ∷ (letterOf 551 ∷ [])
     ∷ (line 24 (eb K7) ∷ [])
     ∷ (line 24 (eb K8) ∷ [])
-    ∷ (line 23 (eb K9) ∷ equivalent 10_000 (leftShare (readApproach K9 WB)) 120 ∷ leftA (readApproach K9 EB) (readApproach K9 WB) 120 ∷ [])
+    ∷ (line 23 (eb K9) ∷ equivalent whole (leftShare (readApproach K9 WB)) 120 ∷ leftA (readApproach K9 EB) (readApproach K9 WB) 120 ∷ [])
     ∷ (line 23 (eb K10) ∷ [])
     ∷ []
 

@@ -6,7 +6,7 @@ use mathlib.Core.List.{List, [], _∷_, _++_}
 use Prim.Native.Nat.{ℕ, _+_, _-_, _*_, _/_, max, min}
 use lib.Dec.{eqb, leb, ltb}
 use Rattle.units.specs.Rounding.{up}
-use Rattle.units.specs.Unit.{flowUnit}
+use Rattle.units.specs.Unit.{flowUnit, whole}
 use Rattle.layout.specs.Sheet.{BLANK}
 use Rattle.line_decay.specs.Decay.{decayNumber as D}
 use Rattle.line_factors.specs.Factors.{laneFactor}
@@ -38,7 +38,7 @@ vST s = vC s - b s
 
 -- 4 "fT = (100vC−15a)(100vC−5b)/vC², down; 10,000 if vC is 0"
 unfoldable pub turningT : ℕ → ℕ → ℕ → ℕ
-turningT vC a b = cond (eqb vC 0) 10_000 ((100 * vC - 15 * a) * (100 * vC - 5 * b) / (vC * vC))
+turningT vC a b = cond (eqb vC 0) whole ((100 * vC - 15 * a) * (100 * vC - 5 * b) / (vC * vC))
 
 unfoldable pub fT : Approach → ℕ
 fT s = turningT (vC s) (a s) (b s)
@@ -57,7 +57,7 @@ flow s g = flowOf g (i s g) (n s g) (f s g)
 
 -- 8 "sST: as line 6 with f = 100(100vST−15a)/vST, down (10,000 if vST is 0)"
 unfoldable pub turningST : ℕ → ℕ → ℕ
-turningST vST a = cond (eqb vST 0) 10_000 (100 * (100 * vST - 15 * a) / vST)
+turningST vST a = cond (eqb vST 0) whole (100 * (100 * vST - 15 * a) / vST)
 
 unfoldable pub sST : Approach → ℕ
 sST s = flowOf Through (i s Through) (n s Through) (turningST (vST s) (a s))
@@ -78,7 +78,7 @@ interference s Right CL = cond (eqb (n s Right) 0) 0 (G (p s) CL)
 
 -- 12 "pedestrian frequency F: 0 if p is 0; else 10,000 without a button; else 10,000 − ⌊D(2p·CL)/10⁵⌋"
 unfoldable pub frequency : ℕ → Bool → ℕ → ℕ
-frequency p button CL = cond (eqb p 0) 0 (cond button (10_000 - D (2 * p * CL) / 100_000) 10_000)
+frequency p button CL = cond (eqb p 0) 0 (cond button (whole - D (2 * p * CL) / 100_000) whole)
 
 unfoldable pub F : Approach → ℕ → ℕ
 F s CL = frequency (p s) (hasButton s) CL
@@ -104,7 +104,7 @@ unfoldable pub weightedOf : ℕ → ℕ → ℕ → ℕ → ℕ → ℕ
 weightedOf lost minimum crossing F reference =
     let A = max minimum reference in
     let B = max A crossing in
-    lost + A + up ((B - A) * F) 10_000
+    lost + A + up ((B - A) * F) whole
 
 -- "The through movement's entries serve the whole approach in 26 and 28."
 unfoldable pub weighted : Approach → ℕ → ℕ → ℕ
@@ -124,7 +124,7 @@ vLL s = part (vC s) (heaviest (b s) (vC s) (n s Through))
 
 -- 20 "q = 10⁴·b/vLL up"
 unfoldable pub q : Approach → ℕ
-q s = part (vC s) (up (10_000 * b s) (vLL s))
+q s = part (vC s) (up (whole * b s) (vLL s))
 
 -- "single (below)": "no left lane, one through lane, no right lane, shared, left volume above 0"
 unfoldable pub single : Approach → Bool
@@ -132,18 +132,18 @@ single s = eqb (n s Left) 0 && (eqb (n s Through) 1 && (eqb (n s Right) 0 && (is
 
 -- "o = ⌊10⁴·vLO/vCO⌋ if the oncoming approach is single, of its left and T volumes, else 0"
 unfoldable pub leftShare : Approach → ℕ
-leftShare o = cond (single o) (10_000 * v o Left / vC o) 0
+leftShare o = cond (single o) (whole * v o Left / vC o) 0
 
 -- 21 "E = num·CL/(10·den) up; num = 5·10⁸ + 80,000q − 3q²; den = 2(10⁴+q) + o·CL"
 unfoldable pub equivalent : ℕ → ℕ → ℕ → ℕ
-equivalent q o CL = up ((500_000_000 + 80_000 * q - 3 * (q * q)) * CL) (10 * (2 * (10_000 + q) + o * CL))
+equivalent q o CL = up ((500_000_000 + 80_000 * q - 3 * (q * q)) * CL) (10 * (2 * (whole + q) + o * CL))
 
 unfoldable pub E : Approach → Approach → ℕ → ℕ
 E s o CL = part (vC s) (equivalent (q s) (leftShare o) CL)
 
 -- 22 "sA = line 6 × ⌊10¹²/(10⁸ + q(E−10⁴))⌋ / (n·10⁴), down"
 unfoldable pub flowA : ℕ → ℕ → ℕ → ℕ → ℕ
-flowA flow q E n = flow * (1_000_000_000_000 / (100_000_000 + q * E - 10_000 * q)) / (n * 10_000)
+flowA flow q E n = flow * (1_000_000_000_000 / (100_000_000 + q * E - whole * q)) / (n * whole)
 
 unfoldable pub sA : Approach → Approach → ℕ → ℕ
 sA s o CL = part (vC s) (flowA (flow s Through) (q s) (E s o CL) (n s Through))
@@ -154,7 +154,7 @@ optionAOf vLL sA v flow interference CL = max (time vLL CL sA + interference) (t
 
 -- "For L: vLL = ⌈vL/nL⌉, q = 10,000, with its own E, sA (from line 5), lanes."
 unfoldable pub leftA : Approach → Approach → ℕ → ℕ
-leftA s o CL = flowA (flow s Left) 10_000 (equivalent 10_000 (leftShare o) CL) (n s Left)
+leftA s o CL = flowA (flow s Left) whole (equivalent whole (leftShare o) CL) (n s Left)
 
 unfoldable pub optionA : Approach → Approach → ℕ → ℕ
 optionA s o CL =
@@ -185,16 +185,20 @@ line23 s o CL = unless-empty s (cond (allowedA s o) (optionA s o CL) BLANK)
 unfoldable pub sB : Approach → ℕ
 sB s = cond (isShared s) (flow s Through * (n s Through - 1) / n s Through) (flow s Through)
 
+-- the 8,000 ms of line 24, in which the through lanes beside a waiting left move
+abbrev pub waiting : ℕ
+waiting = 8_000
+
 -- 24 "the larger of 8,000 + 1000·vST·CL/sST up − ⌊8000·sB/sST⌋ + line 11; and 8,000 + 1000·vL·CL/sSL up";
 -- "lefts of 0 add nothing to 24 and 27"
 unfoldable pub throughB : ℕ → ℕ → ℕ → ℕ → ℕ → ℕ
-throughB vST sST sB interference CL = 8_000 + time vST CL sST - 8_000 * sB / sST + interference
+throughB vST sST sB interference CL = waiting + time vST CL sST - waiting * sB / sST + interference
 
 unfoldable pub optionB : Approach → ℕ → ℕ
 optionB s CL =
     max
     (part (vST s) (throughB (vST s) (sST s) (sB s) (interference s Through CL) CL))
-    (part (v s Left) (8_000 + time (v s Left) CL (sSL s)))
+    (part (v s Left) (waiting + time (v s Left) CL (sSL s)))
 
 unfoldable pub line24 : Approach → Approach → ℕ → ℕ
 line24 s o CL = unless-empty s (cond (allowedB o) (optionB s CL) BLANK)

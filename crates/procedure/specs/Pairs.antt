@@ -63,8 +63,14 @@ unfoldable pub icuOf : ℕ → ℕ → ℕ
 icuOf required CL = up required CL
 
 -- "Letters A–G end at 550, 640, 730, 820, 910, 1000, 1090; H is above."
-unfoldable pub letterOf : ℕ → ℕ
-letterOf icu =
-    cond (leb icu 550) 0
-    (cond (leb icu 640) 1
-    (cond (leb icu 730) 2 (cond (leb icu 820) 3 (cond (leb icu 910) 4 (cond (leb icu 1000) 5 (cond (leb icu 1090) 6 7))))))
+abbrev pub letterEnds : List ℕ
+letterEnds = 550 ∷ 640 ∷ 730 ∷ 820 ∷ 910 ∷ 1000 ∷ 1090 ∷ []
+
+-- how many ends a number has passed, up to the first that it has not
+unfoldable pub endsPassed : List ℕ → ℕ → ℕ
+endsPassed [] icu = 0
+endsPassed (end ∷ ends) icu = cond (leb icu end) 0 (suc (endsPassed ends icu))
+
+-- A to H as 0 to 7
+abbrev pub letterOf : ℕ → ℕ
+letterOf icu = endsPassed letterEnds icu

@@ -3,9 +3,10 @@
 // The definitions of the lines, the pairs and the sheet stand in specs/.
 ghost use mathlib.Core.Path.{_≡_};
 ghost use Prim.Native.Nat.{_<_};
-ghost use lib.ListN.{length};
-ghost use Rattle.layout.specs.Entries.{approachCount, movementCount, entryCount};
+ghost use Rattle.answers.specs.declared.Answer.the-variants.{Accepted};
+ghost use Rattle.layout.specs.Entries.{approachCount, movementCount};
 ghost use Rattle.entries.specs.Layout.{cycle};
+ghost use Rattle.entries.specs.Judging.{judged};
 ghost use Rattle.procedure.specs.Approach.{readMovement, readApproach};
 use kinds::Cycle;
 use kinds::FreeRight;
@@ -18,8 +19,6 @@ use kinds::Pedestrians;
 use kinds::PushButton;
 use kinds::SharedLane;
 use kinds::Volume;
-use units::Ms;
-use units::Vph;
 
 pub struct Movement {
     pub lanes: Lanes,
@@ -41,20 +40,20 @@ pub struct Approach {
 }
 
 fn read_movement(entries: &[u32], movement: usize) -> Movement
-    requires { ⌜ (length (now entries) ≡ entryCount) × (movement < movementCount) ⌝ }
+    requires { ⌜ (judged (now entries) ≡ Accepted) × (movement < movementCount) ⌝ }
     ensures { λ r. ⌜ r ≡ readMovement (now (entries .entry)) movement ⌝ }
 {
     Movement {
-        lanes: Lanes(entries::movement_entry(entries, movement, layout::LANES_NO)),
-        volume: Volume(Vph(entries::movement_entry(entries, movement, layout::VOLUME_NO))),
-        ideal: IdealFlow(Vph(entries::movement_entry(entries, movement, layout::IDEAL_NO))),
-        lost: LostTime(Ms(entries::movement_entry(entries, movement, layout::LOST_NO))),
-        green: MinimumGreen(Ms(entries::movement_entry(entries, movement, layout::GREEN_NO))),
+        lanes: Lanes::new(entries::movement_value(entries, movement, layout::LANES_NO)),
+        volume: Volume::new(entries::movement_value(entries, movement, layout::VOLUME_NO)),
+        ideal: IdealFlow::new(entries::movement_value(entries, movement, layout::IDEAL_NO)),
+        lost: LostTime::new(entries::movement_value(entries, movement, layout::LOST_NO)),
+        green: MinimumGreen::new(entries::movement_value(entries, movement, layout::GREEN_NO)),
     }
 }
 
 pub fn read_approach(entries: &[u32], approach: usize) -> Approach
-    requires { ⌜ (length (now entries) ≡ entryCount) × (approach < approachCount) ⌝ }
+    requires { ⌜ (judged (now entries) ≡ Accepted) × (approach < approachCount) ⌝ }
     ensures { λ r. ⌜ r ≡ readApproach (now (entries .entry)) approach ⌝ }
 {
     let left = read_movement(entries, layout::GROUPS * approach);
@@ -64,21 +63,21 @@ pub fn read_approach(entries: &[u32], approach: usize) -> Approach
         left,
         through,
         right,
-        shared: SharedLane(entries::approach_entry(entries, approach, layout::SHARED_NO)),
-        walkers: Pedestrians(entries::approach_entry(entries, approach, layout::WALKERS_NO)),
-        button: PushButton(entries::approach_entry(entries, approach, layout::BUTTON_NO)),
-        crossing: PedestrianTime(Ms(entries::approach_entry(
+        shared: SharedLane::new(entries::approach_value(entries, approach, layout::SHARED_NO)),
+        walkers: Pedestrians::new(entries::approach_value(entries, approach, layout::WALKERS_NO)),
+        button: PushButton::new(entries::approach_value(entries, approach, layout::BUTTON_NO)),
+        crossing: PedestrianTime::new(entries::approach_value(
             entries,
             approach,
             layout::CROSSING_NO,
-        ))),
-        free: FreeRight(entries::approach_entry(entries, approach, layout::FREE_NO)),
+        )),
+        free: FreeRight::new(entries::approach_value(entries, approach, layout::FREE_NO)),
     }
 }
 
 pub fn read_cycle(entries: &[u32]) -> Cycle
-    requires { ⌜ length (now entries) ≡ entryCount ⌝ }
+    requires { ⌜ judged (now entries) ≡ Accepted ⌝ }
     ensures { λ r. ⌜ r .0 ≡ cycle (now (entries .entry)) ⌝ }
 {
-    Cycle(entries::cycle_entry(entries))
+    Cycle::new(entries::cycle_entry(entries))
 }

@@ -7,7 +7,7 @@ use native.Mathlib.Nat.{le-trans}
 use native.Mathlib.Decide.{decLt}
 use native.Mathlib.Omega.{arith}
 use lib.Dec.{eqb, leb, lit≤, lit<}
-use lib.ListN.{getD, List·getD-eq-default}
+use lib.ListN.{length, getD, List·getD-eq-default}
 use borrow.Author.Tests.{leb-true}
 use Rattle.units.proofs.Laws.{up-most}
 use Rattle.layout.specs.Entries.{approachCount, entryCount, EB, WB, NB, SB}
@@ -18,10 +18,11 @@ use Rattle.kinds.specs.Working.{mostOf}
 use Rattle.answers.specs.declared.Answer.the-variants.{Accepted}
 use Rattle.entries.specs.Layout.{cycle}
 use Rattle.entries.specs.Judging.{judged}
+use Rattle.kinds.proofs.Laws.{within}
 use Rattle.entries.proofs.Laws.{accepted-count, accepted-range}
 use Rattle.procedure.specs.Approach.{readApproach}
 use Rattle.procedure.specs.Ranges.{FairCycle}
-use Rattle.procedure.specs.Pairs.{line, protected, permitted, pair, rightTotal, icuOf, letterOf}
+use Rattle.procedure.specs.Pairs.{line, protected, permitted, pair, rightTotal, icuOf, letterEnds, endsPassed, letterOf}
 use Rattle.procedure.specs.Sheet.{linesAt, pairAt, rightAt, lastOf, lastAt, sheet}
 use Rattle.procedure.proofs.Fair.{fair, fair-cycle}
 use Rattle.line_bounds.specs.Bounds.{mostAdjusted, mostPicked, mostRequired, mostIcu, Bounded}
@@ -82,15 +83,13 @@ icu-most : (required CL : ℕ) → required ≤ mostRequired → FairCycle CL �
 unfolding icuOf
 icu-most required CL h cycle = up-most mostIcu required CL (omega (arith, cycle .least))
 
-pub letter-most : (icu : ℕ) → letterOf icu ≤ 7
-unfolding letterOf
-letter-most icu =
-    chosen-most (leb icu 550) (λ A. lit≤ tt) (λ _.
-    chosen-most (leb icu 640) (λ B. lit≤ tt) (λ _.
-    chosen-most (leb icu 730) (λ C. lit≤ tt) (λ _.
-    chosen-most (leb icu 820) (λ D. lit≤ tt) (λ _.
-    chosen-most (leb icu 910) (λ E. lit≤ tt) (λ _.
-    chosen-most (leb icu 1000) (λ F. lit≤ tt) (λ _. chosen-most (leb icu 1090) (λ G. lit≤ tt) (λ H. lit≤ tt)))))))
+ends-most : (ends : List ℕ) (icu : ℕ) → endsPassed ends icu ≤ length ends
+unfolding endsPassed
+ends-most [] icu = lit≤ tt
+ends-most (end ∷ ends) icu = chosen-most (leb icu end) (λ here. omega arith) (λ past. omega (arith, ends-most ends icu))
+
+pub letter-most : (icu : ℕ) → letterOf icu ≤ length letterEnds
+letter-most icu = ends-most letterEnds icu
 
 abbrev pub mostLast : List ℕ
 mostLast = mostRequired ∷ mostRequired ∷ mostRequired ∷ mostRequired ∷ mostRequired ∷ mostRequired ∷ mostIcu ∷ 7 ∷ []
@@ -118,7 +117,7 @@ module _ (e : List ℕ) (ok : judged e ≡ Accepted) where
   entries-fit = record { at = λ i. go i (decLt i entryCount) }
     where
       go : (i : ℕ) → Dec (i < entryCount) → getD e i 0 ≤ BLANK
-      go i (yes h) = le-trans (accepted-range e ok i h .most) (limit-fits i h)
+      go i (yes h) = le-trans (within (kindAt i) (getD e i 0) (accepted-range e ok i h) .most) (limit-fits i h)
       go i (no h) = rw (List·getD-eq-default e 0 {n = i} (omega (arith, accepted-count e ok))) (lit≤ tt)
 
   module _ (a o : ℕ) (h : a < approachCount) (k : o < approachCount) where

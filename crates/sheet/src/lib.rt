@@ -26,10 +26,10 @@ use sheet_totals::Rights;
 use units::Ms;
 
 fn free_at(entries: &[u32], a: usize) -> FreeRight
-    requires { ⌜ (length (now entries) ≡ entryCount) × (a < approachCount) ⌝ }
+    requires { ⌜ (judged (now entries) ≡ Accepted) × (a < approachCount) ⌝ }
     ensures { λ r. ⌜ r .0 ≡ readApproach (now (entries .entry)) a .free .0 ⌝ }
 {
-    FreeRight(entries::approach_entry(entries, a, layout::FREE_NO))
+    FreeRight::new(entries::approach_value(entries, a, layout::FREE_NO))
 }
 
 // The right totals: each with the through that crosses it from its left hand and the left that comes towards it.
@@ -42,10 +42,38 @@ fn rights_at(entries: &[u32], along: Street, across: Street) -> Rights
     let nb = across.one;
     let sb = across.other;
     Rights {
-        eb: sheet_totals::right_of(free_at(entries, 0), eb, wb, along.pair, sb, across.pair),
-        wb: sheet_totals::right_of(free_at(entries, 1), wb, eb, along.pair, nb, across.pair),
-        nb: sheet_totals::right_of(free_at(entries, 2), nb, sb, across.pair, eb, along.pair),
-        sb: sheet_totals::right_of(free_at(entries, 3), sb, nb, across.pair, wb, along.pair),
+        eb: sheet_totals::right_of(
+            free_at(entries, layout::EB),
+            eb,
+            wb,
+            along.pair,
+            sb,
+            across.pair,
+        ),
+        wb: sheet_totals::right_of(
+            free_at(entries, layout::WB),
+            wb,
+            eb,
+            along.pair,
+            nb,
+            across.pair,
+        ),
+        nb: sheet_totals::right_of(
+            free_at(entries, layout::NB),
+            nb,
+            sb,
+            across.pair,
+            eb,
+            along.pair,
+        ),
+        sb: sheet_totals::right_of(
+            free_at(entries, layout::SB),
+            sb,
+            nb,
+            across.pair,
+            wb,
+            along.pair,
+        ),
     }
 }
 
@@ -134,13 +162,13 @@ pub fn write_fresh(entries: &[u32], sheet: &mut [u32])
     requires { ⌜ (judged (now entries) ≡ Accepted) × (length (now sheet) ≡ sheetCount) ⌝ }
     ensures { λ _. ⌜ now (sheet .exit) ≡ sheetOf (now (entries .entry)) ⌝ }
 {
-    let eb = sheet_street::lines_at(entries, 0, 1);
-    let wb = sheet_street::lines_at(entries, 1, 0);
-    let nb = sheet_street::lines_at(entries, 2, 3);
-    let sb = sheet_street::lines_at(entries, 3, 2);
+    let eb = sheet_street::lines_at(entries, layout::EB, layout::WB);
+    let wb = sheet_street::lines_at(entries, layout::WB, layout::EB);
+    let nb = sheet_street::lines_at(entries, layout::NB, layout::SB);
+    let sb = sheet_street::lines_at(entries, layout::SB, layout::NB);
     put_front(sheet, entries, eb, wb, nb, sb);
-    let along = sheet_street::street_at(entries, 0, 1, eb, wb);
-    let across = sheet_street::street_at(entries, 2, 3, nb, sb);
+    let along = sheet_street::street_at(entries, layout::EB, layout::WB, eb, wb);
+    let across = sheet_street::street_at(entries, layout::NB, layout::SB, nb, sb);
     put_streets(entries, sheet, along, across);
 }
 

@@ -92,29 +92,23 @@ pub fn picked_time(pair: Pair) -> Ms
     pair.split
 }
 
+// How many letters end, and where, in tenths of a percent: A to G; H is above.
+const LETTER_ENDS: usize = 7;
+
+const ENDS: [u32; LETTER_ENDS] = [550, 640, 730, 820, 910, 1_000, 1_090];
+
 // A to H as 0 to 7.
 fn letter_of(icu: u32) -> u32
     ensures { λ r. ⌜ r ≡ letterOf icu ⌝ }
 {
-    if icu <= 550 {
-        return 0;
+    let mut letter: usize = 0;
+    while letter < LETTER_ENDS {
+        if icu <= ENDS[letter] {
+            return letter as u32;
+        }
+        letter += 1;
     }
-    if icu <= 640 {
-        return 1;
-    }
-    if icu <= 730 {
-        return 2;
-    }
-    if icu <= 820 {
-        return 3;
-    }
-    if icu <= 910 {
-        return 4;
-    }
-    if icu <= 1000 {
-        return 5;
-    }
-    if icu <= 1090 { 6 } else { 7 }
+    letter as u32
 }
 
 // Tenths of a percent, up.

@@ -12,10 +12,10 @@ use Rattle.procedure.specs.Lines.{a, b, volume, vST, turningT, fT, flowOf, flow
 use Rattle.procedure.specs.Lines.{adjustedOf, weightedOf, weighted, adjusted, heaviest, vLL, q, single, leftShare, equivalent, E, flowA, sA}
 use Rattle.procedure.specs.Lines.{optionAOf, leftA, optionA, allowedA, allowedB, empty, line23, sB, throughB, optionB, line24, lesser, line25, line26}
 use Rattle.procedure.specs.Lines.{line27, line28, firstLines, laterLines, lines}
-use Rattle.procedure.specs.Pairs.{protected, permitted, split, picked, pair, throughTime, leftTime, rightTotal, icuOf, letterOf}
+use Rattle.procedure.specs.Pairs.{protected, permitted, split, picked, pair, throughTime, leftTime, rightTotal, icuOf, endsPassed}
 use Rattle.procedure.specs.Sheet.{linesAt, pairAt, rightAt, lastOf, lastAt, sheet}
 use Rattle.answers.specs.Answers.{inTurn}
-use Rattle.kinds.specs.Kinds.{inRange, kindAt}
+use Rattle.kinds.specs.Kinds.{kindAt}
 use Rattle.entries.specs.Judging.{sizeAnswer, outside, badlyShared, otherLanes, unserved, judged}
 use Rattle.procedure.specs.Junctions.{K1}
 use Rattle.lists.specs.Lists.{table}
@@ -27,10 +27,10 @@ use Rattle.study_lines.specs.Lines.{ratedLine, refusedLine}
 use Rattle.study_listing.specs.Listing.{siteOf, siteLines, listing}
 
 pub example : listing (fileOf icus (K1 ++ set K1 cycleEntry 29)) ≡ ascii "1 666 C PP\n2 R3 80\n"
-unfolding ascii inRange kindAt up term turns faded decayNumber laneFactor movementEntry approachEntry readMovement readApproach a b volume
+unfolding ascii kindAt up term turns faded decayNumber laneFactor movementEntry approachEntry readMovement readApproach a b volume
     vST turningT fT flowOf flow turningST sST sSL G interference frequency F time reference adjustedOf weightedOf weighted adjusted heaviest
     vLL q single leftShare equivalent E flowA sA optionAOf leftA optionA allowedA allowedB empty line23 sB throughB optionB line24 lesser
     line25 line26 line27 line28 firstLines laterLines lines protected permitted split picked pair throughTime leftTime rightTotal icuOf
-    letterOf linesAt pairAt rightAt lastOf lastAt sheet inTurn sizeAnswer outside badlyShared otherLanes unserved judged bytesOf table
+    endsPassed linesAt pairAt rightAt lastOf lastAt sheet inTurn sizeAnswer outside badlyShared otherLanes unserved judged bytesOf table
     packed startsWith judgement fileOf digits decimal numberThen ratedLine refusedLine siteOf siteLines listing
 example = refl

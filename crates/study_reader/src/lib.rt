@@ -81,22 +81,20 @@ pub fn entries_of(format: Format, block: &[u8], entries: &mut [u32]) -> Answer
     Answer::Accepted
 }
 
-// The entries of a site of a file, into lent numbers.
-pub fn site_entries(format: Format, file: &[u8], site: u32, entries: &mut [u32]) -> Answer
+// The entries of a site of a file, into lent numbers: those of its block, which is empty only where the site is refused.
+pub fn site_entries(format: Format, file: &[u8], number: u32, entries: &mut [u32]) -> Answer
     requires { ⌜ Modest format ⌝ }
-    ensures { λ r. ⌜ r ≡ siteEntriesAnswer format (now (file .entry)) site (length (now (entries .entry))) ⌝ }
+    ensures { λ r. ⌜ r ≡ siteEntriesAnswer format (now (file .entry)) number (length (now (entries .entry))) ⌝ }
     ensures { λ r. ⌜ now (entries .exit)
-        ≡ left-by (siteEntriesAnswer format (now (file .entry)) site (length (now (entries .entry))))
-        (siteEntries format (now (file .entry)) site) (now (entries .entry)) ⌝ }
+        ≡ left-by (siteEntriesAnswer format (now (file .entry)) number (length (now (entries .entry))))
+        (siteEntries format (now (file .entry)) number) (now (entries .entry)) ⌝ }
 {
     if entries.len() != format.entries {
         return Answer::Refused(Refusal::Size, 0);
     }
-    let answer = site_answer(format, file, site);
-    let Answer::Accepted = answer else {
-        return answer;
-    };
-    let at = site_place(format, file, site);
-    let end = at + format.block_bytes();
-    entries_of(format, &file[at..end], entries)
+    let block = site(format, file, number);
+    if block.len() == 0 {
+        return site_answer(format, file, number);
+    }
+    entries_of(format, block, entries)
 }

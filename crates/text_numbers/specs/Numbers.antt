@@ -1,5 +1,5 @@
 -- Numbers in a text: what a word of digits spells.
-use Prim.Native.Nat.{ℕ, zero, suc, _+_, _*_, _-_, min}
+use Prim.Native.Nat.{ℕ, zero, suc, _+_, _*_, _-_, _^_, min}
 use mathlib.Core.Bool.{cond, _&&_}
 use mathlib.Core.List.{List}
 use lib.ListN.{length, getD}
@@ -8,7 +8,7 @@ use Rattle.text.specs.Text.{digit}
 
 -- no number reaches it: a value has 32 bits
 abbrev pub notNumber : ℕ
-notNumber = 4_294_967_296
+notNumber = 2 ^ 32
 
 -- a number goes on with a digit; anything else, or too many, and it is none
 unfoldable pub nextNumber : ℕ → ℕ → ℕ

@@ -4,7 +4,7 @@ ghost use Prim.Native.Nat.{_≤_};
 ghost use Rattle.text_numbers.specs.Numbers.{notNumber, nextNumber, digitsOf, numberOf};
 
 // No number of 32 bits reaches it.
-pub const NOT_NUMBER: u64 = 4_294_967_296;
+pub const NOT_NUMBER: u64 = u32::MAX as u64 + 1;
 
 fn next_number(number: u64, byte: u8) -> u64
     ensures { λ r. ⌜ (r ≡ nextNumber number byte) × (r ≤ notNumber) ⌝ }

@@ -1,5 +1,5 @@
 -- Where a byte of a text stands: its line and its column.
-use Prim.Native.Nat.{ℕ, zero, suc, _+_, min}
+use Prim.Native.Nat.{ℕ, zero, suc, _+_, _-_, _^_, min}
 use mathlib.Core.Bool.{cond}
 use mathlib.Core.List.{List, _++_}
 use lib.ListN.{length, getD}
@@ -10,7 +10,7 @@ use Rattle.text_phrases.specs.Phrases.{numbered}
 
 -- one more, as far as 32 bits go
 abbrev pub more : ℕ → ℕ
-more n = min (n + 1) 4_294_967_295
+more n = min (n + 1) (2 ^ 32 - 1)
 
 -- the line and the column after the first n bytes of a text, from 1
 unfoldable pub lineAt : List ℕ → ℕ → ℕ

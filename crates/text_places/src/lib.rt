@@ -13,7 +13,7 @@ struct Position {
 }
 
 // The largest number of 32 bits.
-const LAST: u32 = 4_294_967_295;
+const LAST: u32 = u32::MAX;
 
 // One more, as far as 32 bits go.
 fn more(n: u32) -> u32

@@ -28,7 +28,7 @@ fn fill(entries: &mut [u32])
 {
     let mut i: usize = 0;
     while i < entries.len() {
-        entries[i] = Kind::at(i).limits().usual;
+        entries[i] = Kind::at(i).usual();
         i += 1;
     }
 }

@@ -16,6 +16,9 @@ pub struct Flow(pub u32);
 
 pub const FLOW_UNIT: u64 = 1;
 
+// All of something, in the ten-thousandths of factors, shares and frequencies.
+pub const WHOLE: u32 = 10_000;
+
 // a / b, rounded up; 0 where b is 0.
 pub fn divide_up(a: u64, b: u64) -> u64
     requires { ⌜ a + b < 2 ^ 64 ⌝ }

@@ -3,7 +3,7 @@ use mathlib.Core.Path.{_≡_}
 use Rattle.kinds.specs.declared.Group.the-variants.{Through}
 use Rattle.kinds.specs.declared.Kind.the-variants.{PedestrianTime}
 use Rattle.kinds.specs.Working.{mostOf}
-use Rattle.line_bounds.specs.Bounds.{whole}
+use Rattle.units.specs.Unit.{whole}
 use Rattle.line_bounds.proofs.Times.{walkers-share, walkers-room}
 use Rattle.procedure.specs.Lines.{weightedOf}
 use native.Mathlib.Omega.{arith}

@@ -1,5 +1,6 @@
 -- One law gives all products their room; where nothing oncoming turns left and the lane has lefts alone or none, the quotient is known.
-use Rattle.line_bounds.specs.Bounds.{whole, mostEquivalent}
+use Rattle.units.specs.Unit.{whole}
+use Rattle.line_bounds.specs.Bounds.{mostEquivalent}
 use Rattle.line_bounds.proofs.LeftLane.{EquivalentRoom, equivalent-room, equivalent-alike}
 use Rattle.procedure.specs.Lines.{equivalent}
 use Rattle.units.proofs.Laws.{up-most}

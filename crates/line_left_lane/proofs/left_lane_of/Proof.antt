@@ -7,7 +7,7 @@ use Prim.Native.Nat.{_<_, _≤_}
 use borrow.Author.Tests.{eq-eqb, ne-eqb}
 use Rattle.kinds.specs.declared.Group.the-variants.{Through}
 use Rattle.procedure.specs.Lines.{vC, heaviest, vLL, q, E, sA}
-use Rattle.line_bounds.specs.Bounds.{whole}
+use Rattle.units.specs.Unit.{whole}
 use Rattle.line_bounds.proofs.Flows.{volumes, group-serving}
 use Rattle.line_bounds.proofs.LeftLane.{heaviest-least, equivalent-room, share-within, carried}
 use borrow.Author.Needs.{needs}

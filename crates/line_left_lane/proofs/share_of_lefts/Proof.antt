@@ -1,4 +1,4 @@
-use Rattle.line_bounds.specs.Bounds.{whole}
+use Rattle.units.specs.Unit.{whole}
 use Rattle.units.proofs.Laws.{up-most}
 use Prim.Native.Nat.{_*_}
 use native.Mathlib.Omega.{arith}

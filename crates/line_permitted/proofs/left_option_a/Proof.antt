@@ -2,7 +2,7 @@
 use Rattle.line_bounds.specs.Bounds.{mostVolume}
 use Rattle.line_bounds.proofs.Numbers.{shared-out}
 use Rattle.line_bounds.proofs.LeftLane.{Carries, carries, equivalent-room}
-use Rattle.line_bounds.specs.Bounds.{whole}
+use Rattle.units.specs.Unit.{whole}
 use Rattle.procedure.specs.Lines.{equivalent, flowA}
 use Prim.Native.Nat.{_<_, _≤_}
 use borrow.Author.Tests.{eq-eqb}

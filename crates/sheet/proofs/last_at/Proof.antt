@@ -1,6 +1,5 @@
 -- The right totals, the picked times and the cycle are those of the streets; their sums are small by a street's laws.
 use Rattle.procedure.proofs.Fair.{fair-cycle}
-use Rattle.entries.proofs.Laws.{accepted-count}
 use Rattle.sheet.proofs.Laws.{small-street, small-pair, last-assembled}
 use denote.Ref.{now}
 use lib.Dec.{lit<}
@@ -21,7 +20,7 @@ combined-requires c κs =
     )
 
 read-cycle-requires : tie.Need-read-cycle-requires
-read-cycle-requires c κs = accepted-count _ (c .before .before .before .pre .0)
+read-cycle-requires c κs = c .before .before .before .pre .0
 
 last-of-requires : tie.Need-last-of-requires
 last-of-requires c κs =

@@ -1,6 +1,5 @@
 -- Each right total is put together from the streets' own values, whose times are small.
 use Rattle.layout.specs.Entries.{EB, WB, NB, SB}
-use Rattle.entries.proofs.Laws.{accepted-count}
 use Rattle.line_stages.specs.Cells.{cellsOf}
 use Rattle.sheet_pairs.specs.Cells.{pairCells}
 use Rattle.sheet_street.proofs.Laws.{Small}
@@ -18,7 +17,7 @@ across : (s : tie.Start) → Small (cellsOf (s .args .across .one)) (cellsOf (s 
 across s = small-street (now (s .args .entries)) (s .pre .0) (lit< tt) (lit< tt) (s .pre .2)
 
 free-at-requires : tie.Need-free-at-requires
-free-at-requires c κs = (accepted-count _ (c .before .before .before .before .before .pre .0), lit< tt)
+free-at-requires c κs = (c .before .before .before .before .before .pre .0, lit< tt)
 
 right-of-requires : tie.Need-right-of-requires
 right-of-requires c κs =
@@ -26,7 +25,7 @@ right-of-requires c κs =
     (along s .right-first, across s .through-second, along s .left-second)
 
 free-at-requires-2 : tie.Need-free-at-requires-2
-free-at-requires-2 c κs = (accepted-count _ (c .before .before .before .before .before .before .before .pre .0), lit< tt)
+free-at-requires-2 c κs = (c .before .before .before .before .before .before .before .pre .0, lit< tt)
 
 right-of-requires-2 : tie.Need-right-of-requires-2
 right-of-requires-2 c κs =
@@ -34,7 +33,7 @@ right-of-requires-2 c κs =
     (along s .right-second, across s .through-first, along s .left-first)
 
 free-at-requires-3 : tie.Need-free-at-requires-3
-free-at-requires-3 c κs = (accepted-count _ (c .before .before .before .before .before .before .before .before .before .pre .0), lit< tt)
+free-at-requires-3 c κs = (c .before .before .before .before .before .before .before .before .before .pre .0, lit< tt)
 
 right-of-requires-3 : tie.Need-right-of-requires-3
 right-of-requires-3 c κs =
@@ -42,7 +41,7 @@ right-of-requires-3 c κs =
     (across s .right-first, along s .through-first, across s .left-second)
 
 free-at-requires-4 : tie.Need-free-at-requires-4
-free-at-requires-4 c κs = (accepted-count _ (c .before .before .before .before .before .before .before .before .before .before .before .pre .0), lit< tt)
+free-at-requires-4 c κs = (c .before .before .before .before .before .before .before .before .before .before .before .pre .0, lit< tt)
 
 right-of-requires-4 : tie.Need-right-of-requires-4
 right-of-requires-4 c κs =

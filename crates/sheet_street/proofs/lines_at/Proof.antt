@@ -1,18 +1,9 @@
 -- Acceptable entries make fair approaches and a fair cycle; the lines of those are the promise.
 use Rattle.procedure.proofs.Fair.{fair, fair-cycle}
-use Rattle.entries.proofs.Laws.{accepted-count}
 use denote.Ref.{now}
+use borrow.Author.Needs.{needs}
 use Rattle.sheet_street.proofs.lines_at.Statement.{statement}
 use Rattle.sheet_street.proofs.lines_at.Tie as tie
-
-read-approach-requires : tie.Need-read-approach-requires
-read-approach-requires c κs = (accepted-count _ (c .before .pre .0), c .before .pre .1)
-
-read-approach-requires-2 : tie.Need-read-approach-requires-2
-read-approach-requires-2 c κs = (accepted-count _ (c .before .before .pre .0), c .before .before .pre .2)
-
-read-cycle-requires : tie.Need-read-cycle-requires
-read-cycle-requires c κs = accepted-count _ (c .before .before .before .pre .0)
 
 lines-of-requires : tie.Need-lines-of-requires
 lines-of-requires c κs =
@@ -28,4 +19,4 @@ returns c =
     rw (t .before .read-approach .ensures, t .read-approach2 .ensures, c .before .read-cycle .ensures) at (c .lines-of .ensures)
 
 pub lines-at-spec : {M : Type 1} → statement M
-lines-at-spec = tie.close (tie.spec read-approach-requires read-approach-requires-2 read-cycle-requires lines-of-requires returns)
+lines-at-spec = tie.close (tie.spec (λ c κs. search needs) (λ c κs. search needs) (λ c κs. search needs) lines-of-requires returns)

@@ -1,84 +1,42 @@
--- Each end is passed before the next is asked.
-use Rattle.procedure.specs.Pairs.{letterOf}
-use borrow.Author.Tests.{le-leb, lt-leb}
+-- `sheet_totals::letter_of`. The loop's invariant: the letter is what is passed so far and what will be of the ends that are left.
+use Rattle.sheet_totals.proofs.Letters.{end-ahead, end-behind}
+use Rattle.procedure.specs.Pairs.{letterEnds, endsPassed, letterOf}
+use lib.ListN.{length, drop}
+use native.Mathlib.Omega.{arith}
+use Prim.Native.Nat.{_+_, _-_, _≤_}
+use mathlib.Core.Path.{_≡_, sym, _∙_}
+use borrow.Author.Needs.{needs}
 use Rattle.sheet_totals.proofs.letter_of.Statement.{statement}
 use Rattle.sheet_totals.proofs.letter_of.Tie as tie
 
-returns : tie.Need-returns
-unfolding letterOf
-returns c = rw (le-leb _ _ (c .if1 .taken))
+abbrev Inv-loop : tie.InvT-loop
+Inv-loop icu letter₀ letter = (letter ≤ length letterEnds) × (letterOf icu ≡ letter + endsPassed (drop letter letterEnds) icu)
 
-returns-2 : tie.Need-returns-2
-unfolding letterOf
-returns-2 c = rw (lt-leb _ _ (c .before .if1 .left), le-leb _ _ (c .if2 .taken))
+abbrev μ-loop : tie.MeasureT-loop
+μ-loop icu letter₀ letter = length letterEnds - letter
 
-returns-3 : tie.Need-returns-3
-unfolding letterOf
-returns-3 c =
-    rw (
-      lt-leb _ _ (c .before .before .if1 .left),
-      lt-leb _ _ (c .before .if2 .left),
-      le-leb _ _ (c .if3 .taken),
-    )
+loop-holds : tie.Need-loop-holds Inv-loop μ-loop
+loop-holds c = (omega arith, omega arith)
 
-returns-4 : tie.Need-returns-4
-unfolding letterOf
-returns-4 c =
-    rw (
-      lt-leb _ _ (c .before .before .before .if1 .left),
-      lt-leb _ _ (c .before .before .if2 .left),
-      lt-leb _ _ (c .before .if3 .left),
-      le-leb _ _ (c .if4 .taken),
-    )
+returns : tie.Need-returns Inv-loop μ-loop
+returns c =
+    let turn = c .before .before in
+    omega (arith, turn .loop .inv .1, end-ahead letterEnds _ (turn .loop .letter) (omega arith) (c .if1 .taken))
 
-returns-5 : tie.Need-returns-5
-unfolding letterOf
-returns-5 c =
-    rw (
-      lt-leb _ _ (c .before .before .before .before .if1 .left),
-      lt-leb _ _ (c .before .before .before .if2 .left),
-      lt-leb _ _ (c .before .before .if3 .left),
-      lt-leb _ _ (c .before .if4 .left),
-      le-leb _ _ (c .if5 .taken),
-    )
+loop-again : tie.Need-loop-again Inv-loop μ-loop
+loop-again c =
+    let turn = c .before .before in
+    (omega arith, omega (arith, turn .loop .inv .1, end-behind letterEnds _ (turn .loop .letter) (omega arith) (c .if1 .left)))
 
-returns-6 : tie.Need-returns-6
-unfolding letterOf
-returns-6 c =
-    rw (
-      lt-leb _ _ (c .before .before .before .before .before .if1 .left),
-      lt-leb _ _ (c .before .before .before .before .if2 .left),
-      lt-leb _ _ (c .before .before .before .if3 .left),
-      lt-leb _ _ (c .before .before .if4 .left),
-      lt-leb _ _ (c .before .if5 .left),
-      le-leb _ _ (c .if6 .taken),
-    )
-
-returns-7 : tie.Need-returns-7
-unfolding letterOf
-returns-7 c =
-    rw (
-      lt-leb _ _ (c .before .before .before .before .before .before .if1 .left),
-      lt-leb _ _ (c .before .before .before .before .before .if2 .left),
-      lt-leb _ _ (c .before .before .before .before .if3 .left),
-      lt-leb _ _ (c .before .before .before .if4 .left),
-      lt-leb _ _ (c .before .before .if5 .left),
-      lt-leb _ _ (c .before .if6 .left),
-      le-leb _ _ (c .if7 .taken),
-    )
-
-returns-8 : tie.Need-returns-8
-unfolding letterOf
-returns-8 c =
-    rw (
-      lt-leb _ _ (c .before .before .before .before .before .before .if1 .left),
-      lt-leb _ _ (c .before .before .before .before .before .if2 .left),
-      lt-leb _ _ (c .before .before .before .before .if3 .left),
-      lt-leb _ _ (c .before .before .before .if4 .left),
-      lt-leb _ _ (c .before .before .if5 .left),
-      lt-leb _ _ (c .before .if6 .left),
-      lt-leb _ _ (c .if7 .left),
-    )
+returns-2 : tie.Need-returns-2 Inv-loop μ-loop
+unfolding endsPassed
+returns-2 c =
+    let turn = c .before in
+    let end : turn .loop .letter ≡ length letterEnds = omega arith in
+    end ∙ sym (rw end at (turn .loop .inv .1))
 
 pub letter-of-spec : {M : Type 1} → statement M
-letter-of-spec = tie.close (tie.spec returns returns-2 returns-3 returns-4 returns-5 returns-6 returns-7 returns-8)
+letter-of-spec =
+    tie.close
+    (tie.spec Inv-loop μ-loop loop-holds (λ c. search needs) (λ c. search needs) (λ c. search needs) returns (λ c. search needs)
+    (λ c. search needs) loop-again (λ c. search needs) returns-2)

@@ -26,7 +26,7 @@ loop-again c =
     let turn = c .before .before .before in (
       omega arith,
       simp length-set (turn .loop .inv .1),
-      rw (c .limits .ensures .2, c .before .at .ensures, turn .loop .inv .2) (filled-more usually _ (turn .loop .i) (omega arith)),
+      rw (c .usual .ensures, c .before .at .ensures, turn .loop .inv .2) (filled-more usually _ (turn .loop .i) (omega arith)),
     )
 
 returns : tie.Need-returns Inv-loop μ-loop
