@@ -1,8 +1,9 @@
 """Checks of the second calculation against the figures of the rules, and against itself.
 
-    python3 tests/second/selftest.py
+    python3 tests/second/selftest.py [ROUNDS]
 
-The last line is 'N passed, 0 failed'; otherwise the exit status is 1.
+ROUNDS, 600 where none is given, is how many random junctions each part tries. The last line is 'N passed, 0 failed';
+otherwise the exit status is 1.
 """
 
 import random
@@ -579,19 +580,19 @@ def check_study_write():
     check("no sites", (write([], out), out[:12]), ((0, 0), b"ICUS\0\0\0\0" + old_offset))
 
 
-def main():
+def main(rounds):
     for part in (check_k1_k2, check_k3_to_k10, check_listing, check_letters, check_layout,
                  check_book_examples, check_named, check_refusals, check_decay,
                  check_amend_answers, check_study_places, check_study_write):
         part()
-    check_again(rounds=3000)
-    check_judge(rounds=4000)
-    check_reach(wanted=8000)
-    check_history(rounds=3000)
+    check_again(rounds)
+    check_judge(rounds)
+    check_reach(wanted=2 * rounds)
+    check_history(rounds)
     check_study_round_trips(rounds=10)
     print("%(passed)d passed, %(failed)d failed" % counts)
     return 1 if counts["failed"] else 0
 
 
 if __name__ == "__main__":
-    sys.exit(main())
+    sys.exit(main(int(sys.argv[1]) if len(sys.argv) > 1 else 600))
