@@ -9,7 +9,7 @@ use lib.Dec.{ltb}
 use borrow.Author.Tests.{ltb-true, ltb-false, lt-ltb, le-ltb}
 use native.Mathlib.Nat.{pow-suc}
 use native.Mathlib.Omega.{arith}
-use Rattle.lists.proofs.Laws.{store-over, over-next}
+use Rattle.lists.proofs.Laws.{store-over, over-none, over-next}
 use Rattle.text.specs.Text.{digit, digits, digitMost, decimal, numberThen, Placed}
 use Rattle.text.specs.Working.{spelled}
 
@@ -158,6 +158,22 @@ placed-next {list} {one} {two} {first} {second} {at} p q h =
       is = q .is ∙ rw (p .is, p .next) (over-next list at (length first) first second refl h);
       next = omega (arith, p .next, q .next, length-append first second);
     }
+
+-- nothing, put at any place, changes nothing
+pub placed-nothing : (list : List ℕ) (at : ℕ) → Placed list at [] list at
+placed-nothing list at = record { is = over-none list at; next = omega arith }
+
+-- a piece just past another, where the last of them is known to fit
+pub placed-after : {list one two first second : List ℕ} {at n m : ℕ} → Placed list at first one n → Placed one n second two m
+    → m ≤ length list
+    → Placed list at (first ++ second) two m
+placed-after p q fits = placed-next p q (omega (arith, p .next, q .next))
+
+pub placed-three : {list one two three first second third : List ℕ} {at n m k : ℕ}
+    → Placed list at first one n → Placed one n second two m → Placed two m third three k
+    → k ≤ length list
+    → Placed list at (first ++ second ++ third) three k
+placed-three p q r fits = placed-after (placed-after p q (omega (arith, r .next))) r fits
 
 -- a number of one digit and one of more, put
 

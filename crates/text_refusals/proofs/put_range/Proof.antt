@@ -1,5 +1,5 @@
 -- `text_refusals::put_range`. The entry's name, its least and its most.
-use Rattle.text_phrases.proofs.Laws.{placed-after, placed-three}
+use Rattle.text.proofs.Laws.{placed-after, placed-three}
 use Rattle.text_refusals.specs.Refusals.{rangeText}
 use Rattle.text.specs.Text.{ascii}
 use borrow.Author.Needs.{needs}
