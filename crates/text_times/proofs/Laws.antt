@@ -1,14 +1,16 @@
 -- Laws of the search for a word's point, and of seconds with their thousandths.
-use Prim.Native.Nat.{ℕ, suc, _+_, _*_, _<_, _≤_, min, max}
-use mathlib.Core.Path.{_≡_, _∙_}
+use Prim.Native.Nat.{ℕ, suc, _+_, _*_, _-_, _<_, _≤_, min, max}
+use mathlib.Core.Path.{_≡_, refl}
+use mathlib.Core.Bool.{Bool, true, false, cond}
 use mathlib.Core.List.{List}
-use lib.ListN.{length, getD, drop}
-use lib.Seq.{drop-cons, drop-length}
-use borrow.Author.Tests.{eq-eqb, ne-eqb, lt-ltb, le-ltb}
+use lib.ListN.{length, getD, take, drop, length-drop}
+use lib.Seq.{drop-cons, drop-length, take-all}
+use lib.Dec.{leb}
+use borrow.Author.Tests.{leb-true, eq-eqb, ne-eqb, lt-ltb, le-ltb}
 use native.Mathlib.Numerals.{add-one}
 use native.Mathlib.Omega.{arith}
-use Rattle.text_times.specs.Times.{second, point, pointIn, together}
-use Rattle.text_numbers.specs.Numbers.{tooLarge}
+use Rattle.text_times.specs.Times.{second, point, pointIn, thousandths, together, secondsOf, fromEnd}
+use Rattle.text_numbers.specs.Numbers.{tooLarge, numberOf}
 
 -- what is left to search past the first bytes of a word, where none of these is a point
 abbrev pub Searched : List ℕ → ℕ → Type 0
@@ -43,3 +45,26 @@ module _ (seconds part : ℕ) where
   pub together-small : max seconds part < tooLarge → together seconds part ≡ min (second * seconds + part) tooLarge
   unfolding together
   together-small h = rw (lt-ltb (max seconds part) tooLarge h)
+
+-- seconds without a point, and with one
+
+module _ (word : List ℕ) (at : ℕ) (is : at ≡ pointIn word) where
+  pub seconds-whole : at ≡ length word → secondsOf word ≡ together (numberOf word) 0
+  unfolding secondsOf
+  seconds-whole end = rw (← is, le-ltb at (length word) (omega arith))
+
+  pub seconds-parted : at < length word
+      → secondsOf word ≡ together (numberOf (take at word)) (thousandths (take (length word - (at + 1)) (drop (at + 1) word)))
+  unfolding secondsOf
+  seconds-parted h =
+      let rest = take-all (length word - (at + 1)) (drop (at + 1) word) (omega (arith, length-drop (at + 1) word)) in
+      rw (← is, lt-ltb at (length word) h, rest)
+
+-- a byte that stands so far before a word's end
+pub from-end-some : (word : List ℕ) (n byte : ℕ) → fromEnd word n ≡ byte → 0 < byte → n ≤ length word
+unfolding fromEnd
+from-end-some word n byte is some = by (leb n (length word)) refl is
+  where
+    by : (b : Bool) → leb n (length word) ≡ b → cond b (getD word (length word - n) 0) 0 ≡ byte → n ≤ length word
+    by true e is = leb-true n (length word) e
+    by false e is = absurd (omega arith)
