@@ -40,7 +40,7 @@ number-last front byte =
     let l : length (front ++ (byte ∷ [])) ≡ suc (length front) = length-append front (byte ∷ []) ∙ add-one (length front) in
     rw (l, number-front front byte (length front) (omega arith), getD-append-seam front byte [] 0)
 
-next-digit : (number d : ℕ) → d < 10 → 10 * number + d < tooLarge → nextNumber number (digit d) ≡ 10 * number + d
+pub next-digit : (number d : ℕ) → d < 10 → 10 * number + d < tooLarge → nextNumber number (digit d) ≡ 10 * number + d
 next-digit number d h fits = digit-next number (digit d) (omega arith) (omega arith) (omega arith) ∙ omega arith
 
 module _ (number : ℕ) (fits : number < tooLarge) where

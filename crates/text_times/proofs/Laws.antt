@@ -1,15 +1,18 @@
 -- Laws of the search for a word's point, and of seconds with their thousandths.
-use Prim.Native.Nat.{ℕ, suc, _+_, _*_, _-_, _<_, _≤_, min, max}
+use Prim.Native.Nat.{ℕ, suc, _+_, _*_, _-_, _/_, _%_, _<_, _≤_, min, max}
 use mathlib.Core.Path.{_≡_, refl}
 use mathlib.Core.Bool.{Bool, true, false, cond}
-use mathlib.Core.List.{List}
-use lib.ListN.{length, getD, take, drop, length-drop}
-use lib.Seq.{drop-cons, drop-length, take-all}
-use lib.Dec.{leb}
+use mathlib.Core.List.{List, [], _∷_, _++_}
+use lib.ListN.{length, getD, take, drop, length-append}
+use lib.Seq.{drop-cons, drop-length}
+use lib.Dec.{eqb, leb}
 use borrow.Author.Tests.{leb-true, eq-eqb, ne-eqb, lt-ltb, le-ltb}
 use native.Mathlib.Numerals.{add-one}
 use native.Mathlib.Omega.{arith}
-use Rattle.text_times.specs.Times.{second, point, pointIn, thousandths, together, secondsOf, fromEnd}
+use Rattle.text_times.specs.Times.{second, point, letterS, pointIn, thousandths, together, secondsOf, fromEnd, decimals, fractionText, timeText}
+use Rattle.text_times.specs.Working.{fractionMost, timeMost}
+use Rattle.text.specs.Text.{digit, decimal}
+use Rattle.text.proofs.Laws.{length-decimal}
 use Rattle.text_numbers.specs.Numbers.{tooLarge, numberOf}
 
 -- what is left to search past the first bytes of a word, where none of these is a point
@@ -53,12 +56,9 @@ module _ (word : List ℕ) (at : ℕ) (is : at ≡ pointIn word) where
   unfolding secondsOf
   seconds-whole end = rw (← is, le-ltb at (length word) (omega arith))
 
-  pub seconds-parted : at < length word
-      → secondsOf word ≡ together (numberOf (take at word)) (thousandths (take (length word - (at + 1)) (drop (at + 1) word)))
+  pub seconds-parted : at < length word → secondsOf word ≡ together (numberOf (take at word)) (thousandths (drop (at + 1) word))
   unfolding secondsOf
-  seconds-parted h =
-      let rest = take-all (length word - (at + 1)) (drop (at + 1) word) (omega (arith, length-drop (at + 1) word)) in
-      rw (← is, lt-ltb at (length word) h, rest)
+  seconds-parted h = rw (← is, lt-ltb at (length word) h)
 
 -- a byte that stands so far before a word's end
 pub from-end-some : (word : List ℕ) (n byte : ℕ) → fromEnd word n ≡ byte → 0 < byte → n ≤ length word
@@ -68,3 +68,48 @@ from-end-some word n byte is some = by (leb n (length word)) refl is
     by : (b : Bool) → leb n (length word) ≡ b → cond b (getD word (length word - n) 0) 0 ≡ byte → n ≤ length word
     by true e is = leb-true n (length word) e
     by false e is = absurd (omega arith)
+
+-- how long a time is: one, two or three digits of thousandths stand past its point
+
+module _ (part : ℕ) where
+  abbrev pub tenth : ℕ
+  tenth = part / 100
+
+  abbrev pub hundredth : ℕ
+  hundredth = part / 10 % 10
+
+  abbrev pub thousandth : ℕ
+  thousandth = part % 10
+
+  abbrev pub asDigits : Bool → Bool → List ℕ
+  asDigits p q = cond p (digit tenth ∷ []) (cond q (digit tenth ∷ digit hundredth ∷ []) (digit tenth ∷ digit hundredth ∷ digit thousandth ∷ []))
+
+length-decimals : (part : ℕ) → length (decimals part) ≤ 3
+unfolding decimals
+length-decimals part = by (eqb (part % 100) 0) (eqb (part % 10) 0)
+  where
+    by : (p q : Bool) → length (asDigits part p q) ≤ 3
+    by true q = omega arith
+    by false true = omega arith
+    by false false = omega arith
+
+length-fraction : (part : ℕ) → length (fractionText part) ≤ fractionMost
+unfolding fractionText
+length-fraction part = by (eqb part 0)
+  where
+    by : (b : Bool) → length (cond b [] (point ∷ decimals part)) ≤ fractionMost
+    by true = omega arith
+    by false = omega (arith, length-decimals part)
+
+pub length-time : (time : ℕ) → length (timeText time) ≤ timeMost
+unfolding timeText
+length-time time =
+    let whole = decimal (time / second) in
+    let past = fractionText (time % second) in
+    omega (
+      arith,
+      length-append (whole ++ past) (letterS ∷ []),
+      length-append whole past,
+      length-decimal (time / second),
+      length-fraction (time % second),
+    )

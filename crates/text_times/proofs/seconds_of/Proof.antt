@@ -1,6 +1,8 @@
 -- `text_times::seconds_of`. Whole seconds, or those before the point and the thousandths past it.
 use Rattle.text_times.proofs.Laws.{seconds-whole, seconds-parted}
-use lib.Seq.{length-take-le}
+use Prim.Native.Nat.{_+_, _-_}
+use lib.ListN.{length, drop, length-drop}
+use lib.Seq.{length-take-le, take-all}
 use mathlib.Core.Path.{sym, _∙_}
 use native.Mathlib.Omega.{arith}
 use borrow.Author.Needs.{needs}
@@ -21,8 +23,10 @@ returns-2 c =
     let whole = c .before .before .before in
     let point = whole .before .before .before in
     let word = point .before .before .args .word .now in
+    let past = point .point-in .result + 1 in
+    let rest = take-all (length word - past) (drop past word) (omega (arith, length-drop past word)) in
     c .together2 .ensures
-    ∙ rw (whole .number-of2 .ensures, c .before .thousandths .ensures)
+    ∙ rw (whole .number-of2 .ensures, c .before .thousandths .ensures, rest)
     (sym (seconds-parted word _ (point .point-in .ensures .0) (omega (arith, point .point-in .ensures .1))))
 
 pub seconds-of-spec : {M : Type 1} → statement M
