@@ -12,7 +12,7 @@ use Rattle.answers.specs.declared.Place.{Place}
 use Rattle.answers.specs.declared.Place.the-variants.{OfNothing, OfEntries, OfApproaches, OfMovements, OfBytes}
 use Rattle.answers.specs.declared.Refusal.{Refusal}
 use Rattle.entries.specs.Judging.{judged}
-use Rattle.text_words.specs.declared.Trouble.the-variants.{TooLong}
+use Rattle.text_values.specs.declared.Trouble.the-variants.{TooLong}
 use Rattle.text_words.specs.declared.Found.{Found}
 use Rattle.text_words.specs.declared.Found.the-variants.{Well, Wrong}
 use Rattle.text_scan.specs.Scanning.{parsed}

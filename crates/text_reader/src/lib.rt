@@ -10,7 +10,7 @@ use answers::Refusal;
 use kinds::Kind;
 use layout::ENTRIES;
 use text_words::Found;
-use text_words::Trouble;
+use text_values::Trouble;
 
 // The most bytes that a text has.
 pub const TEXT_MOST: usize = 65_535;

@@ -5,7 +5,7 @@ use Rattle.answers.specs.declared.Answer.the-variants.{Refused as No}
 use Rattle.layout.specs.Entries.{buttonNo, cycleEntry, approachPlace, through, EB, NB}
 use Rattle.kinds.specs.Kinds.{kindAt}
 use Rattle.text_names.specs.Names.{wordTable, wordIn, classAt}
-use Rattle.text_words.specs.declared.Trouble.the-variants.{NotNumber}
+use Rattle.text_values.specs.declared.Trouble.the-variants.{NotNumber}
 use Rattle.text_reader.specs.declared.Reading.the-variants.{Misread, Refused}
 use Rattle.text.specs.Text.{ascii, joined, digits, decimal}
 use Rattle.text_phrases.specs.Phrases.{numbered, nameIn}

@@ -10,7 +10,7 @@ use Rattle.lists.specs.Lists.{table}
 use Rattle.kinds.specs.Kinds.{limitsOf, kindAt}
 use Rattle.text_names.specs.Names.{space, lineFeed, titleCount}
 use Rattle.text_words.specs.Words.{stands, wrong, unless, State, state, taken}
-use Rattle.text_words.specs.declared.Trouble.the-variants.{Ends}
+use Rattle.text_values.specs.declared.Trouble.the-variants.{Ends}
 use Rattle.text_words.specs.declared.Reader.{Reader}
 
 abbrev pub tab : ℕ

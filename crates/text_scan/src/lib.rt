@@ -10,7 +10,7 @@ ghost use Rattle.text_scan.specs.Working.{scan};
 use layout::ENTRIES;
 use text_words::Found;
 use text_words::Reader;
-use text_words::Trouble;
+use text_values::Trouble;
 
 // The reader, the place where a word begins that is not taken yet, and whether a comment goes on.
 struct Cursor {

@@ -49,7 +49,7 @@ module _ (kind : Kind) (value : ℕ) where
       where
         by : (b : Bool) → Each (λ byte. point ≤ byte) (cond b (timeText value) (decimal value))
         by true = time-bytes value fits
-        by false i h = omega (arith, decimal-digits value i h .0)
+        by false = λ i h. omega (arith, decimal-digits value i h .0)
 
     pub value-some : 0 < length (valueText kind value)
     unfolding valueText
