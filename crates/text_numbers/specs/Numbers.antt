@@ -1,5 +1,5 @@
 -- Numbers in a text: what a word of digits spells.
-use Prim.Native.Nat.{ℕ, zero, suc, _+_, _*_, _-_, min}
+use Prim.Native.Nat.{ℕ, zero, suc, _+_, _*_, _-_, _^_, min}
 use mathlib.Core.Bool.{Bool, cond, _&&_}
 use mathlib.Core.List.{List}
 use lib.ListN.{length, getD}
@@ -8,7 +8,7 @@ use Rattle.text.specs.Text.{digit}
 
 -- no value reaches it, since a value has 32 bits: what digits spell that make a larger number
 abbrev pub tooLarge : ℕ
-tooLarge = 4_294_967_296
+tooLarge = 2 ^ 32
 
 -- what a word spells that is no number
 abbrev pub notNumber : ℕ

@@ -4,7 +4,7 @@ ghost use Prim.Native.Nat.{_≤_};
 ghost use Rattle.text_numbers.specs.Numbers.{notNumber, nextNumber, digitsOf, numberOf};
 
 // No number of 32 bits reaches it: what digits spell that make a larger number.
-pub const TOO_LARGE: u64 = 4_294_967_296;
+pub const TOO_LARGE: u64 = u32::MAX as u64 + 1;
 
 // What a word spells that is no number.
 pub const NOT_NUMBER: u64 = TOO_LARGE + 1;

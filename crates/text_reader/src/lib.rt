@@ -9,8 +9,8 @@ use answers::Place;
 use answers::Refusal;
 use kinds::Kind;
 use layout::ENTRIES;
-use text_words::Found;
 use text_values::Trouble;
+use text_words::Found;
 
 // The most bytes that a text has.
 pub const TEXT_MOST: usize = 65_535;

@@ -14,8 +14,8 @@ use Rattle.text_phrases.specs.Phrases.{numbered, nameIn}
 use Rattle.text_places.specs.Places.{lineAt, columnAt, placeText}
 use Rattle.text_refusals.specs.Refusals.{limitsText, rangeText, whyText, refusalText, answerText, readingText}
 
-time : answerText (No Range lostNo) ≡ ascii "R3: EBL lost-time is outside 0s to 20s\n"
-unfolding ascii joined digits decimal decimals fractionText timeText valueText numbered kindAt classAt wordTable wordIn nameIn limitsText rangeText whyText refusalText
+time : rangeText lostNo ≡ ascii "EBL lost-time is outside 0s to 20s\n"
+unfolding ascii joined digits decimal decimals fractionText timeText valueText kindAt classAt wordTable wordIn nameIn limitsText rangeText
 time = refl
 
 range : answerText (No Range (approachPlace EB buttonNo)) ≡ ascii "R3: EB push-button is outside 0 to 1\n"

@@ -8,9 +8,9 @@ ghost use Rattle.text_words.specs.Words.{state};
 ghost use Rattle.text_scan.specs.Scanning.{isBlank, endsWord, wordTaken, next, usually, ended, parsed};
 ghost use Rattle.text_scan.specs.Working.{scan};
 use layout::ENTRIES;
+use text_values::Trouble;
 use text_words::Found;
 use text_words::Reader;
-use text_values::Trouble;
 
 // The reader, the place where a word begins that is not taken yet, and whether a comment goes on.
 struct Cursor {

@@ -52,12 +52,16 @@ module _ (part : ℕ) (small : part < second) where
     where
       one : (d : ℕ) → d < 10 → (digits : List ℕ) → Each Numeral digits → Each Numeral (digit d ∷ digits)
       one d less digits = each-next Numeral (digit d) digits (omega arith, omega arith)
+
       last : (d : ℕ) → d < 10 → Each Numeral (digit d ∷ [])
       last d less = one d less [] (each-none Numeral)
+
       by : (p q : Bool) → Each Numeral (asDigits part p q)
       by true q = last (tenth part) (omega arith)
       by false true = one (tenth part) (omega arith) (digit (hundredth part) ∷ []) (last (hundredth part) (omega arith))
-      by false false = one (tenth part) (omega arith) (digit (hundredth part) ∷ digit (thousandth part) ∷ []) (one (hundredth part) (omega arith) (digit (thousandth part) ∷ []) (last (thousandth part) (omega arith)))
+      by false false =
+          one (tenth part) (omega arith) (digit (hundredth part) ∷ digit (thousandth part) ∷ [])
+          (one (hundredth part) (omega arith) (digit (thousandth part) ∷ []) (last (thousandth part) (omega arith)))
 
   fraction-numeral : Each Numeral (fractionText part)
   unfolding fractionText
@@ -114,6 +118,7 @@ thousandths-read part small = by (eqb (part % 100) 0) refl (eqb (part % 10) 0) r
   where
     two : numberOf (digit (tenth part) ∷ digit (hundredth part) ∷ []) ≡ 10 * (tenth part) + hundredth part
     two = two-digits (tenth part) (omega arith) (hundredth part) (omega arith)
+
     by : (p : Bool) → eqb (part % 100) 0 ≡ p → (q : Bool) → eqb (part % 10) 0 ≡ q → thousandths (asDigits part p q) ≡ part
     by true e q f =
         let ends = eqb-true (part % 100) 0 e in
@@ -134,6 +139,7 @@ module _ (whole part : ℕ) (small : part < second) (fits : second * whole + par
     where
       digits : List ℕ
       digits = decimal whole
+
       by : (b : Bool) → eqb part 0 ≡ b → secondsOf (digits ++ cond b [] (point ∷ decimals part)) ≡ second * whole + part
       by true e =
           let none = eqb-true part 0 e in
