@@ -1,42 +1,17 @@
--- Laws of the search for a word's point, and of seconds with their thousandths.
-use Prim.Native.Nat.{ℕ, suc, _+_, _*_, _-_, _/_, _%_, _<_, _≤_, min, max}
+-- Laws of seconds with their thousandths, of the bytes at a word's end, and of the length of a time.
+use Prim.Native.Nat.{ℕ, _+_, _*_, _-_, _/_, _%_, _<_, _≤_, min, max}
 use mathlib.Core.Path.{_≡_, refl}
 use mathlib.Core.Bool.{Bool, true, false, cond}
 use mathlib.Core.List.{List, [], _∷_, _++_}
 use lib.ListN.{length, getD, take, drop, length-append}
-use lib.Seq.{drop-cons, drop-length}
 use lib.Dec.{eqb, leb}
-use borrow.Author.Tests.{leb-true, eq-eqb, ne-eqb, lt-ltb, le-ltb}
-use native.Mathlib.Numerals.{add-one}
+use borrow.Author.Tests.{leb-true, lt-ltb, le-ltb}
 use native.Mathlib.Omega.{arith}
 use Rattle.text_times.specs.Times.{second, point, letterS, pointIn, thousandths, together, secondsOf, fromEnd, decimals, fractionText, timeText}
 use Rattle.text_times.specs.Working.{fractionMost, timeMost}
 use Rattle.text.specs.Text.{digit, decimal}
 use Rattle.text.proofs.Laws.{length-decimal}
 use Rattle.text_numbers.specs.Numbers.{tooLarge, numberOf}
-
--- what is left to search past the first bytes of a word, where none of these is a point
-abbrev pub Searched : List ℕ → ℕ → Type 0
-Searched word at = pointIn word ≡ at + pointIn (drop at word)
-
-module _ (word : List ℕ) (at : ℕ) (so : Searched word at) where
-  pub point-here : at < length word → getD word at 0 ≡ point → at ≡ pointIn word
-  unfolding pointIn
-  point-here h is =
-      let left = rw (drop-cons word at 0 h, eq-eqb (getD word at 0) point is) at so in
-      omega (arith, left)
-
-  pub point-past : at < length word → (getD word at 0 ≡ point → ⊥) → Searched word (at + 1)
-  unfolding pointIn
-  point-past h not =
-      let left = rw (drop-cons word at 0 h, ne-eqb (getD word at 0) point not) at so in
-      rw (add-one at) (omega (arith, left))
-
-  pub point-none : at ≡ length word → at ≡ pointIn word
-  unfolding pointIn
-  point-none end =
-      let left = rw (end, drop-length word) at so in
-      omega (arith, left)
 
 -- one of them is too much already, or none is
 

@@ -9,11 +9,11 @@ use lib.Seq.{getD-append-seam, take-at, drop-append-add, take-append-seam}
 use lib.Dec.{eqb}
 use borrow.Author.Tests.{eqb-true, ne-eqb, lt-ltb, le-leb}
 use native.Mathlib.Omega.{arith}
-use Rattle.text.specs.Text.{digit, decimal}
-use Rattle.text.proofs.Laws.{decimal-digits}
+use Rattle.text.specs.Text.{digit, decimal, firstIn}
+use Rattle.text.proofs.Laws.{decimal-digits, first-after}
 use Rattle.text_numbers.specs.Numbers.{tooLarge, nextNumber, numberIn, digitsOf, numberOf}
 use Rattle.text_numbers.proofs.Laws.{next-digit, decimal-some, number-read}
-use Rattle.text_times.specs.Times.{second, point, letterS, letterM, pointIn, scaled, thousandths, secondsOf, fromEnd, without, timeOf}
+use Rattle.text_times.specs.Times.{second, point, letterS, letterM, isPoint, pointIn, scaled, thousandths, secondsOf, fromEnd, without, timeOf}
 use Rattle.text_times.specs.Times.{decimals, fractionText, timeText}
 use Rattle.text_times.proofs.Laws.{together-small, seconds-whole, seconds-parted, tenth, hundredth, thousandth, asDigits}
 
@@ -72,17 +72,10 @@ module _ (part : ℕ) (small : part < second) where
       by false = each-next Numeral point (decimals part) (omega arith, omega arith) decimals-numeral
 
 -- the point is found past digits
-point-after : (front rest : List ℕ) → ((i : ℕ) → i < length front → (digit 0 ≤ getD front i 0) × (getD front i 0 < digit 10))
-    → pointIn (front ++ rest) ≡ length front + pointIn rest
-unfolding pointIn
-point-after [] rest are = omega arith
-point-after (byte ∷ front) rest are =
-    let first = are zero (omega arith) in
-    rw (
-      ne-eqb byte point (λ e. omega (arith, e, first .0)),
-      point-after front rest (λ i h. are (suc i) (omega arith)),
-    )
-    (omega arith)
+point-after : (number : ℕ) (rest : List ℕ) → pointIn (decimal number ++ rest) ≡ length (decimal number) + pointIn rest
+point-after number rest =
+    first-after isPoint (decimal number) rest
+    (λ i h. let is = decimal-digits number i h in ne-eqb (getD (decimal number) i 0) point (λ e. omega (arith, e, is .0)))
 
 -- one, two and three digits
 
@@ -134,7 +127,7 @@ thousandths-read part small = by (eqb (part % 100) 0) refl (eqb (part % 10) 0) r
 
 module _ (whole part : ℕ) (small : part < second) (fits : second * whole + part < tooLarge) where
   seconds-read : secondsOf (decimal whole ++ fractionText part) ≡ second * whole + part
-  unfolding fractionText pointIn
+  unfolding fractionText firstIn
   seconds-read = by (eqb part 0) refl
     where
       digits : List ℕ
@@ -143,7 +136,7 @@ module _ (whole part : ℕ) (small : part < second) (fits : second * whole + par
       by : (b : Bool) → eqb part 0 ≡ b → secondsOf (digits ++ cond b [] (point ∷ decimals part)) ≡ second * whole + part
       by true e =
           let none = eqb-true part 0 e in
-          let end : length digits ≡ pointIn digits = sym (rw (append-nil digits) at (point-after digits [] (decimal-digits whole)) ∙ omega arith) in
+          let end : length digits ≡ pointIn digits = sym (rw (append-nil digits) at (point-after whole []) ∙ omega arith) in
           rw (
             append-nil digits,
             seconds-whole digits (length digits) end refl,
@@ -154,7 +147,7 @@ module _ (whole part : ℕ) (small : part < second) (fits : second * whole + par
       by false e =
           let rest = point ∷ decimals part in
           let at = length digits in
-          let here : at ≡ pointIn (digits ++ rest) = sym (point-after digits rest (decimal-digits whole) ∙ omega arith) in
+          let here : at ≡ pointIn (digits ++ rest) = sym (point-after whole rest ∙ omega arith) in
           rw (
             seconds-parted (digits ++ rest) at here (omega (arith, length-append digits rest)),
             take-append-seam digits rest,

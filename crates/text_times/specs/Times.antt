@@ -1,10 +1,10 @@
 -- Times in a text, with their unit: "4s", "4.5s", "4.125s" or "4000ms". A time is a whole number of milliseconds.
-use Prim.Native.Nat.{ℕ, zero, suc, _+_, _*_, _-_, _/_, _%_, min, max}
-use mathlib.Core.Bool.{cond}
+use Prim.Native.Nat.{ℕ, _+_, _*_, _-_, _/_, _%_, min, max}
+use mathlib.Core.Bool.{Bool, cond}
 use mathlib.Core.List.{List, [], _∷_, _++_}
 use lib.ListN.{length, getD, take, drop}
 use lib.Dec.{eqb, leb, ltb}
-use Rattle.text.specs.Text.{digit, decimal}
+use Rattle.text.specs.Text.{digit, decimal, firstIn}
 use Rattle.text_numbers.specs.Numbers.{tooLarge, notNumber, numberOf}
 
 -- a second has so many milliseconds
@@ -24,9 +24,11 @@ letterM = 109
 -- ---- read
 
 -- the place of a word's first point; its length if it has none
-unfoldable pub pointIn : List ℕ → ℕ
-pointIn [] = 0
-pointIn (byte ∷ word) = cond (eqb byte point) 0 (suc (pointIn word))
+abbrev pub isPoint : ℕ → Bool
+isPoint byte = eqb byte point
+
+abbrev pub pointIn : List ℕ → ℕ
+pointIn word = firstIn isPoint word
 
 -- the thousandths that so many digits past a point spell; there may be one, two or three
 unfoldable pub scaled : ℕ → ℕ → ℕ
