@@ -1,6 +1,6 @@
 -- What is written is read back: the text of any entries is read as those entries. Each word of the table is found in its own
 -- row, each entry's text sets that entry, and so do the texts of all the entries, one after the other.
-use Prim.Native.Nat.{ℕ, zero, suc, _+_, _^_, _<_, _≤_}
+use Prim.Native.Nat.{ℕ, zero, suc, _+_, _-_, _^_, _<_, _≤_}
 use mathlib.Core.Path.{_≡_, refl, sym, _∙_}
 use mathlib.Core.Bool.{Bool, true, false, cond, not, _&&_, _||_}
 use mathlib.Core.List.{List, [], _∷_, _++_, append-assoc}
@@ -28,7 +28,7 @@ use Rattle.text_names.specs.Names.{classAt, titleOf, kindOf, isFirst, isLast}
 use Rattle.text_names.proofs.Laws.{in-place}
 use Rattle.text_words.specs.Words.{stands, State, state}
 use Rattle.text_words.proofs.Laws.{title-named, kind-named, value-set}
-use Rattle.text_scan.specs.Scanning.{tab, carriageReturn, hash, endsWord, wordTaken, scanned, start, usually, ended, parsed}
+use Rattle.text_scan.specs.Scanning.{tab, carriageReturn, hash, endsWord, wordTaken, scanned, start, usually, ended, wordsParsed, unmarked, parsed}
 use Rattle.text_reader.specs.Reader.{textMost, shortReading, reading, keptUnlessRead}
 use Rattle.text_reader.specs.declared.Reading.the-variants.{Read}
 use Rattle.text_writer.specs.Writer.{opening, closing, named, entryText, entryTexts, junctionText}
@@ -221,6 +221,26 @@ module _ (e text : List ℕ) (fits : AllBelow tooLarge e) where
       one-more n (omega arith) (has-second text 0 (entryTexts e n) entry has)
       (reached n (omega arith) (has-first text 0 (entryTexts e n) entry has))
 
+-- what is written begins with the E of the first title, so with no mark
+
+begins : (first second : List ℕ) (byte : ℕ) → 0 < byte → getD first 0 0 ≡ byte → getD (first ++ second) 0 0 ≡ byte
+begins [] second byte some is = absurd (omega (arith, some, is))
+begins (x ∷ first) second byte some is = is
+
+abbrev letterE : ℕ
+letterE = 69
+
+text-begins : (e : List ℕ) (n : ℕ) → getD (entryTexts e (suc n)) 0 0 ≡ letterE
+unfolding entryTexts entryText named opening wordTable ascii joined wordIn classAt
+text-begins e zero =
+    let value = valueText (kindAt 0) (valueIn e 0) in
+    begins (named 0 ++ value) (closing 0 ∷ []) letterE (omega arith) (begins (named 0) value letterE (omega arith) refl)
+text-begins e (suc n) =
+    begins (entryTexts e (suc n)) (entryText (suc n) (valueIn e (suc n))) letterE (omega arith) (text-begins e n)
+
+no-mark : (text : List ℕ) → getD text 0 0 ≡ letterE → unmarked text ≡ text
+no-mark text is = rw is
+
 -- as many numbers of 32 bits as there are entries, written and read
 
 module _ (e : List ℕ) (size : length e ≡ entryCount) (fits : AllBelow (2 ^ 32) e) where
@@ -235,10 +255,14 @@ module _ (e : List ℕ) (size : length e ≡ entryCount) (fits : AllBelow (2 ^ 3
       ∙ ext-getD 0 (table value entryCount) e (l ∙ sym size) (λ i h. table-at value entryCount i (omega arith))
 
   parsed-back : parsed (junctionText e) ≡ state (stands (junction .title) entryCount) e (all-reached .places)
-  unfolding parsed ended wordTaken scanned classAt
+  unfolding wordsParsed ended wordTaken scanned classAt
   parsed-back =
       let end = length (junctionText e) in
-      rw (rw (zero-add, all-set) at (all-reached .reads refl), le-ltb end end (omega arith))
+      rw (
+        no-mark (junctionText e) (text-begins e (entryCount - 1)),
+        rw (zero-add, all-set) at (all-reached .reads refl),
+        le-ltb end end (omega arith),
+      )
 
   -- what is read is what was written
   pub entries-back : parsed (junctionText e) .entries ≡ e
