@@ -99,14 +99,30 @@ def likely(rng):
     return entries
 
 
+def typed_value(rng, kind, value):
+    """A value in one of the ways in which it may be typed."""
+    word = str(value).zfill(rng.choice((1, 1, 1, 6)))
+    if kind not in table.TIMES:
+        return word
+    exact = table.value_text(kind, value)
+    padded = "%0*d.%03ds" % ((rng.choice((1, 4)),) + divmod(value, 1000))
+    return rng.choice((exact, exact, padded, word + "ms"))
+
+
 def loosely(rng, entries):
     """A text of these entries in any order and layout, with comments."""
     parts = []
     for entry in rng.sample(range(81), 81):
         group, kind = table.entry_name(entry).split()
-        parts.append((group, kind, str(entries[entry]).zfill(rng.choice((1, 1, 1, 6)))))
+        parts.append((group, kind, typed_value(rng, kind, entries[entry])))
     gaps = (" ", "\t", "\n", "\r\n", "  ", "# a comment, EBL lanes 9\n", " #\n", "\n\n")
     return "".join(rng.choice(gaps) + word for part in parts for word in part).encode() + rng.choice((b"", b"\n", b" # end"))
+
+
+def named_value(entry, value):
+    """An entry's two names and its value, as icuamend takes them."""
+    group, kind = table.entry_name(entry).split()
+    return [group, kind, table.value_text(kind, value)]
 
 
 def damaged(rng, data):
@@ -118,7 +134,7 @@ def damaged(rng, data):
         if way == 0:
             del data[at:at + rng.choice((1, 2, 10))]
         elif way == 1:
-            data[at:at] = bytes([rng.choice(b"\0\n #9xE\xff")])
+            data[at:at] = bytes([rng.choice(b"\0\n #9xE\xff.sm")])
         elif way == 2:
             data[at:at + 1] = bytes([rng.randrange(256)])
         elif way == 3:
@@ -210,7 +226,7 @@ def runs(b):
             answer = icu2003.amend(sheet, entry, value)
             b.same("a fresh fill", sheet, icu2003.fill(sheet[:81]))
             wanted = (b"", (table.refusal_text(*answer) + "\n").encode()) if answer[0] else (table.change_text(before, sheet).encode(), b"")
-            b.same("run", b.run("icuamend", study, "1", *table.entry_name(entry).split(), str(value), study), wanted)
+            b.same("run", b.run("icuamend", study, "1", *named_value(entry, value), study), wanted)
             b.same("run's study", b.get("run.icus"), study_of([sheet[:81]]))
 
 
@@ -293,7 +309,7 @@ def amendments(b):
         study, new = b.put("study.icus", study_of(sites)), b.path("new.icus")
         if os.path.exists(new):
             os.remove(new)
-        words = [study, str(site + 1)] + table.entry_name(entry).split() + [str(value), new]
+        words = [study, str(site + 1)] + named_value(entry, value) + [new]
         answer = icu2003.judge(sites[site])
         if answer == (0, 0):
             before = icu2003.fill(sites[site])

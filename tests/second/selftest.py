@@ -15,6 +15,7 @@ sys.dont_write_bytecode = True  # leave no cache beside the sources
 
 import icu2003
 import junctions
+import table
 from icu2003 import BLANK, amend, cell, decay, fill, judge, letter, listing, reach
 
 EB, WB, NB, SB = range(4)
@@ -580,6 +581,64 @@ def check_study_write():
     check("no sites", (write([], out), out[:12]), ((0, 0), b"ICUS\0\0\0\0" + old_offset))
 
 
+# ---------------------------------------------------------------- values in a text
+
+VALUES = (("lost-time", "4s", 4000), ("minimum-green", "4.5s", 4500), ("pedestrian-time", "4.125s", 4125), ("lost-time", "4000ms", 4000),
+          ("lost-time", "0.007s", 7), ("lost-time", "04.50s", 4500), ("lost-time", "4294967.295s", BLANK), ("lost-time", "4294967295ms", BLANK),
+          ("volume", "0400", 400), ("cycle", "120", 120), ("lanes", "4294967295", BLANK))
+NO_TIMES = ("4", "4000", "", "s", "ms", "4.s", ".5s", "4.5ms", "4.1234s", "4.5.5s", "4 s", "4S", "4sec", "-4s", "+4s", "4,5s", "4e3ms")
+NO_NUMBERS = ("", "4s", "120s", "4000ms", "4.5", "-1", "+1", "1e3", "one")
+TOO_LARGE = (("lost-time", "4294967.296s"), ("lost-time", "4294968s"), ("lost-time", "4294967296ms"), ("lost-time", "99999999999.5s"),
+             ("volume", "4294967296"), ("cycle", "9" * 30))
+
+
+def said_of_value(kind, word):
+    """The value, or what is said of the word."""
+    try:
+        return table.value_of(kind, word.encode())
+    except table.Wrong as wrong:
+        return wrong.args[1]
+
+
+def again_value(kind, word):
+    """The same spelled again: the unit cut off, what stands before it taken as a decimal number of so many milliseconds."""
+    unit = 1
+    if kind in table.TIMES:
+        if word.endswith("ms"):
+            word, unit = word[:-2], 1
+        elif word.endswith("s"):
+            word, unit = word[:-1], 1000
+        else:
+            return "a time is written with its unit, as 4s, 4.5s or 4000ms"
+    parts = word.split(".")
+    good = all(part and set(part) <= set("0123456789") for part in parts)
+    if not good or len(parts) > (2 if unit == 1000 else 1) or len(parts[-1]) > 3 and len(parts) == 2:
+        return ("a time is written with its unit, as 4s, 4.5s or 4000ms" if kind in table.TIMES
+                else "a whole number without a unit is expected here")
+    value = int(Fraction(word) * unit)
+    return value if value <= BLANK else "this number is too large"
+
+
+def check_values(rounds):
+    for kind, word, value in VALUES:
+        check("value " + word, said_of_value(kind, word), value)
+    for word in NO_TIMES:
+        check("no time: " + word, said_of_value("lost-time", word), "a time is written with its unit, as 4s, 4.5s or 4000ms")
+    for word in NO_NUMBERS:
+        check("no number: " + word, said_of_value("volume", word), "a whole number without a unit is expected here")
+    for kind, word in TOO_LARGE:
+        check("too large: " + word, said_of_value(kind, word), "this number is too large")
+    for value, word in ((4000, "4s"), (4500, "4.5s"), (4125, "4.125s"), (7, "0.007s"), (20, "0.02s"), (0, "0s"), (BLANK, "4294967.295s")):
+        check("time as text", table.value_text("lost-time", value), word)
+    rng = random.Random(1000)
+    for _ in range(rounds):
+        kind = rng.choice(("lost-time", "volume"))
+        word = "".join(rng.choice("0123456789.sm") for _ in range(rng.randrange(8))) + rng.choice(("", "s", "ms"))
+        check("value spelled again: " + word, said_of_value(kind, word), again_value(kind, word))
+        value = rng.choice((rng.randrange(BLANK + 1), rng.randrange(70000)))
+        check("value there and back", said_of_value(kind, table.value_text(kind, value)), value)
+
+
 def main(rounds):
     for part in (check_k1_k2, check_k3_to_k10, check_listing, check_letters, check_layout,
                  check_book_examples, check_named, check_refusals, check_decay,
@@ -590,6 +649,7 @@ def main(rounds):
     check_reach(wanted=2 * rounds)
     check_history(rounds)
     check_study_round_trips(rounds=10)
+    check_values(rounds)
     print("%(passed)d passed, %(failed)d failed" % counts)
     return 1 if counts["failed"] else 0
 

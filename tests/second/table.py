@@ -7,6 +7,7 @@ NAME.sheet, NAME.amend (a change) and NAME.changes (what it changes).
 """
 
 import os
+import re
 import sys
 
 sys.dont_write_bytecode = True  # leave no cache beside the sources
@@ -21,6 +22,7 @@ MOVEMENT_KINDS = ("lanes", "volume", "ideal-flow", "lost-time", "minimum-green")
 APPROACH_KINDS = ("shared-lane", "pedestrians", "push-button", "pedestrian-time", "free-right")
 MOVEMENT_USUAL = (0, 0, 1900, 4000, 4000)
 APPROACH_USUAL = (0, 0, 0, 0, 0)
+TIMES = ("lost-time", "minimum-green", "pedestrian-time")  # kept in milliseconds, written with their unit
 
 
 # ---------------------------------------------------------------- entries by name
@@ -43,13 +45,50 @@ TEXT_MOST = 65535
 USUAL = [MOVEMENT_USUAL[i % 5] for i in range(60)] + [APPROACH_USUAL[i % 5] for i in range(20)] + [120]
 
 
+# ---------------------------------------------------------------- values
+
+class Wrong(Exception):
+    """The first thing wrong with a text: its byte, and what is said of it."""
+
+
+def value_text(kind, value):
+    """A value as it is written: a time in seconds with its unit, anything else as a whole number."""
+    if kind not in TIMES:
+        return str(value)
+    whole, part = divmod(value, 1000)
+    return "%d%ss" % (whole, (".%03d" % part).rstrip("0").rstrip("."))
+
+
+def value_of(kind, word):
+    """The value that the bytes of a word are for an entry of that kind, or Wrong without a place."""
+    if kind in TIMES:
+        found = re.fullmatch(rb"([0-9]+)ms|([0-9]+)(?:\.([0-9]{1,3}))?s", word)
+        if not found:
+            raise Wrong(None, "a time is written with its unit, as 4s, 4.5s or 4000ms")
+        ms, whole, part = found.groups()
+        value = int(ms) if ms else 1000 * int(whole) + int((part or b"").ljust(3, b"0"))
+    else:
+        if not re.fullmatch(rb"[0-9]+", word):
+            raise Wrong(None, "a whole number without a unit is expected here")
+        value = int(word)
+    if value >= 2**32:
+        raise Wrong(None, "this number is too large")
+    return value
+
+
+def limits_text(entry):
+    """The limits of an entry, as its values are written."""
+    kind = entry_name(entry).split()[1]
+    return "%s to %s" % tuple(value_text(kind, limit) for limit in icu2003.limits(entry))
+
+
 # ---------------------------------------------------------------- a junction as text
 
 def write_text(entries):
     """A line for each group with all its entries."""
     out = []
     for group, name in enumerate(GROUPS):
-        values = ["%s %d" % (kind, entries[5 * group + j]) for j, kind in enumerate(kinds_of(group))]
+        values = [kind + " " + value_text(kind, entries[5 * group + j]) for j, kind in enumerate(kinds_of(group))]
         out.append(" ".join([name] + values) + "\n")
     return "".join(out)
 
@@ -58,15 +97,11 @@ def brief_text(title, entries):
     """As a person types it: a comment, and what is not usual."""
     out = ["# " + title + "\n"]
     for group, name in enumerate(GROUPS):
-        given = ["%s %d" % (kind, entries[5 * group + j]) for j, kind in enumerate(kinds_of(group))
+        given = [kind + " " + value_text(kind, entries[5 * group + j]) for j, kind in enumerate(kinds_of(group))
                  if entries[5 * group + j] != USUAL[5 * group + j] or group == 16]
         if given:
             out.append(" ".join([name] + given) + "\n")
     return "".join(out)
-
-
-class Wrong(Exception):
-    """The first thing wrong with a text: its byte, and what is said of it."""
 
 
 def words(data):
@@ -94,9 +129,10 @@ def parse(data):
     for place, word in words(data):
         name = word.decode("latin-1")
         if wanted is not None:
-            if not all(48 <= b <= 57 for b in word) or int(word) >= 2**32:
-                raise Wrong(place, "a whole number is expected here")
-            entries[wanted], places[wanted] = int(word), place
+            try:
+                entries[wanted], places[wanted] = value_of(entry_name(wanted).split()[1], word), place
+            except Wrong as wrong:
+                raise Wrong(place, wrong.args[1])
             wanted = None
         elif name in GROUPS:
             group = name
@@ -111,14 +147,14 @@ def parse(data):
         else:
             raise Wrong(place, "no movement, approach or entry has this name")
     if wanted is not None:
-        raise Wrong(len(data), "the text ends where a number is expected")
+        raise Wrong(len(data), "the text ends where a value is expected")
     return entries, places
 
 
 def refusal_text(number, place):
     """A refusal in words."""
     if number == 3:
-        said = "%s is outside %d to %d" % ((entry_name(place),) + icu2003.limits(place))
+        said = "%s is outside %s" % (entry_name(place), limits_text(place))
     elif number == 4:
         said = "%s: a shared lane needs a through lane and no left lane beside it" % APPROACHES[place]
     elif number == 5:
@@ -291,7 +327,7 @@ def main(outdir):
         before = icu2003.fill(entries)
         after = list(before)
         group, kind, value = AMENDMENTS[name].split()
-        answer = icu2003.amend(after, NAMED[group, kind], int(value))
+        answer = icu2003.amend(after, NAMED[group, kind], value_of(kind, value.encode()))
         put(outdir, name + ".txt", typed)
         put(outdir, name + ".full", write_text(entries))
         put(outdir, name + ".sheet", sheet_text(before))

@@ -1,16 +1,18 @@
--- Laws of decimal text, and of text that is put piece after piece.
+-- Laws of decimal text, of text that is put piece after piece, and of a search in it.
 use Prim.Native.Nat.{ℕ, zero, suc, _+_, _*_, _-_, _/_, _%_, _^_, _≤_, _<_}
 use mathlib.Core.Path.{_≡_, refl, sym, _∙_}
 use mathlib.Core.Logic.{_⊎_, inl, inr, ⊎-elim}
 use mathlib.Core.Bool.{Bool, true, false}
 use mathlib.Core.List.{List, [], _∷_, _++_}
-use lib.ListN.{length, getD, set, length-append}
+use lib.ListN.{length, getD, drop, set, length-append}
+use lib.Seq.{drop-cons, drop-length}
 use lib.Dec.{ltb}
 use borrow.Author.Tests.{ltb-true, ltb-false, lt-ltb, le-ltb}
 use native.Mathlib.Nat.{pow-suc}
+use native.Mathlib.Numerals.{add-one}
 use native.Mathlib.Omega.{arith}
-use Rattle.lists.proofs.Laws.{store-over, over-next}
-use Rattle.text.specs.Text.{digit, digits, digitMost, decimal, numberThen, Placed}
+use Rattle.lists.proofs.Laws.{store-over, over-none, over-next}
+use Rattle.text.specs.Text.{digit, digits, digitMost, decimal, numberThen, firstIn, Placed}
 use Rattle.text.specs.Working.{spelled}
 
 -- a number of one digit, and one of more
@@ -159,6 +161,22 @@ placed-next {list} {one} {two} {first} {second} {at} p q h =
       next = omega (arith, p .next, q .next, length-append first second);
     }
 
+-- nothing, put at any place, changes nothing
+pub placed-nothing : (list : List ℕ) (at : ℕ) → Placed list at [] list at
+placed-nothing list at = record { is = over-none list at; next = omega arith }
+
+-- a piece just past another, where the last of them is known to fit
+pub placed-after : {list one two first second : List ℕ} {at n m : ℕ} → Placed list at first one n → Placed one n second two m
+    → m ≤ length list
+    → Placed list at (first ++ second) two m
+placed-after p q fits = placed-next p q (omega (arith, p .next, q .next))
+
+pub placed-three : {list one two three first second third : List ℕ} {at n m k : ℕ}
+    → Placed list at first one n → Placed one n second two m → Placed two m third three k
+    → k ≤ length list
+    → Placed list at (first ++ second ++ third) three k
+placed-three p q r fits = placed-after (placed-after p q (omega (arith, r .next))) r fits
+
 -- a number of one digit and one of more, put
 
 pub placed-digit : {list after : List ℕ} {at past number : ℕ} → number < 10 → Placed list at (digit number ∷ []) after past
@@ -191,3 +209,37 @@ number-fits at room number byte h = omega (arith, length-numberThen number byte)
 
 pub number-past : {list one : List ℕ} {at n : ℕ} (number byte : ℕ) → Placed list at (numberThen number byte) one n → n ≤ at + (digitMost + 1)
 number-past number byte p = omega (arith, p .next, length-numberThen number byte)
+
+-- the search for the first byte for which a test holds
+
+-- what is left to search past the first bytes, where it holds for none of these
+abbrev pub Searched : (ℕ → Bool) → List ℕ → ℕ → Type 0
+Searched test bytes at = firstIn test bytes ≡ at + firstIn test (drop at bytes)
+
+module _ (test : ℕ → Bool) where
+  module _ (bytes : List ℕ) (at : ℕ) (so : Searched test bytes at) where
+    pub first-here : at < length bytes → test (getD bytes at 0) ≡ true → at ≡ firstIn test bytes
+    unfolding firstIn
+    first-here h is =
+        let left = rw (drop-cons bytes at 0 h, is) at so in
+        omega (arith, left)
+
+    pub first-past : at < length bytes → test (getD bytes at 0) ≡ false → Searched test bytes (at + 1)
+    unfolding firstIn
+    first-past h is =
+        let left = rw (drop-cons bytes at 0 h, is) at so in
+        rw (add-one at) (omega (arith, left))
+
+    pub first-none : at ≡ length bytes → at ≡ firstIn test bytes
+    unfolding firstIn
+    first-none end =
+        let left = rw (end, drop-length bytes) at so in
+        omega (arith, left)
+
+  -- it is found past a front for whose bytes the test does not hold
+  pub first-after : (front rest : List ℕ) → ((i : ℕ) → i < length front → test (getD front i 0) ≡ false)
+      → firstIn test (front ++ rest) ≡ length front + firstIn test rest
+  unfolding firstIn
+  first-after [] rest none = omega arith
+  first-after (byte ∷ front) rest none =
+      rw (none zero (omega arith), first-after front rest (λ i h. none (suc i) (omega arith))) (omega arith)

@@ -3,7 +3,7 @@ use Prim.Native.Nat.{ℕ, zero, suc, _+_, _*_, _-_, _/_, _%_}
 use Prim.Native.Char.{code}
 use Prim.Native.String.{String, [] as none, _∷_ as _then_}
 use mathlib.Core.Path.{_≡_}
-use mathlib.Core.Bool.{cond}
+use mathlib.Core.Bool.{Bool, cond}
 use mathlib.Core.List.{List, [], _∷_, _++_}
 use lib.ListN.{length}
 use lib.Dec.{ltb}
@@ -39,6 +39,11 @@ decimal number = digits digitMost number
 -- a number, and the byte that parts it from what follows
 unfoldable pub numberThen : ℕ → ℕ → List ℕ
 numberThen number byte = decimal number ++ (byte ∷ [])
+
+-- the place of the first byte for which a test holds; the length of the list if there is none
+unfoldable pub firstIn : (ℕ → Bool) → List ℕ → ℕ
+firstIn test [] = 0
+firstIn test (byte ∷ bytes) = cond (test byte) 0 (suc (firstIn test bytes))
 
 -- a part put at a place, and the place past it
 pub record Placed (before : List ℕ) (at : ℕ) (part after : List ℕ) (past : ℕ) : Type 0 where

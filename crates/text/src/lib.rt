@@ -27,7 +27,8 @@ pub fn put_bytes(out: &mut [u8], at: usize, bytes: &[u8]) -> usize
     at + i
 }
 
-fn put_digit(out: &mut [u8], at: usize, number: u32) -> usize
+// A digit, of a number below ten.
+pub fn put_digit(out: &mut [u8], at: usize, number: u32) -> usize
     requires { ⌜ (at < length (now out)) × (number < 10) ⌝ }
     ensures { λ r. ⌜ Placed (now (out .entry)) at (digit number ∷ []) (now (out .exit)) r ⌝ }
 {

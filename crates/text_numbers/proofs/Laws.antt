@@ -12,13 +12,13 @@ use native.Mathlib.Numerals.{add-one}
 use native.Mathlib.Omega.{arith}
 use Rattle.text.specs.Text.{digit, digitMost, decimal}
 use Rattle.text.proofs.Laws.{decimal-one, decimal-more, length-more}
-use Rattle.text_numbers.specs.Numbers.{notNumber, nextNumber, numberIn, digitsOf, numberOf}
+use Rattle.text_numbers.specs.Numbers.{tooLarge, nextNumber, numberIn, digitsOf, numberOf}
 
 -- a number goes on with a digit
-pub digit-next : (number byte : ℕ) → number < notNumber → digit 0 ≤ byte → byte ≤ digit 9
-    → nextNumber number byte ≡ min (10 * number + (byte - digit 0)) notNumber
+pub digit-next : (number byte : ℕ) → digit 0 ≤ byte → byte ≤ digit 9 → number < tooLarge
+    → nextNumber number byte ≡ min (10 * number + (byte - digit 0)) tooLarge
 unfolding nextNumber
-digit-next number byte small low high = rw (lt-ltb number notNumber small, le-leb (digit 0) byte low, le-leb byte (digit 9) high)
+digit-next number byte low high small = rw (le-leb (digit 0) byte low, le-leb byte (digit 9) high, lt-ltb number tooLarge small)
 
 -- one byte more of a number
 pub number-more : (word : List ℕ) (n : ℕ) {number more : ℕ} → number ≡ numberIn word n → more ≡ nextNumber number (getD word n 0)
@@ -40,10 +40,10 @@ number-last front byte =
     let l : length (front ++ (byte ∷ [])) ≡ suc (length front) = length-append front (byte ∷ []) ∙ add-one (length front) in
     rw (l, number-front front byte (length front) (omega arith), getD-append-seam front byte [] 0)
 
-next-digit : (number d : ℕ) → d < 10 → 10 * number + d < notNumber → nextNumber number (digit d) ≡ 10 * number + d
+pub next-digit : (number d : ℕ) → d < 10 → 10 * number + d < tooLarge → nextNumber number (digit d) ≡ 10 * number + d
 next-digit number d h fits = digit-next number (digit d) (omega arith) (omega arith) (omega arith) ∙ omega arith
 
-module _ (number : ℕ) (fits : number < notNumber) where
+module _ (number : ℕ) (fits : number < tooLarge) where
   one-digit : number < 10 → digitsOf (decimal number) ≡ number
   unfolding numberIn
   one-digit low =
@@ -59,7 +59,7 @@ module _ (number : ℕ) (fits : number < notNumber) where
       )
       (omega arith)
 
-number-within : (most number : ℕ) → number < 10 ^ most → number < notNumber → digitsOf (decimal number) ≡ number
+number-within : (most number : ℕ) → number < 10 ^ most → number < tooLarge → digitsOf (decimal number) ≡ number
 number-within zero number h fits = one-digit number fits (omega arith)
 number-within (suc most) number h fits =
     by (ltb number 10) refl (number-within most (number / 10) (omega (arith, pow-suc 10 most)) (omega arith))
@@ -68,14 +68,14 @@ number-within (suc most) number h fits =
     by true e front = one-digit number fits (ltb-true number 10 e)
     by false e front = more-digits number fits (ltb-false number 10 e) front
 
-pub decimal-some : (number : ℕ) → number < notNumber → 0 < length (decimal number)
+pub decimal-some : (number : ℕ) → number < tooLarge → 0 < length (decimal number)
 decimal-some number fits = by (ltb number 10) refl
   where
     by : (b : Bool) → ltb number 10 ≡ b → 0 < length (decimal number)
     by true e = rw (decimal-one number (ltb-true number 10 e)) (omega arith)
     by false e = omega (arith, length-more number (ltb-false number 10 e) (omega arith))
 
-pub number-read : (number : ℕ) → number < notNumber → numberOf (decimal number) ≡ number
+pub number-read : (number : ℕ) → number < tooLarge → numberOf (decimal number) ≡ number
 unfolding numberOf
 number-read number fits =
     let some = decimal-some number fits in

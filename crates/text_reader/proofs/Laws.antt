@@ -7,7 +7,7 @@ use Rattle.answers.specs.declared.Answer.the-variants.{Accepted, Refused as No}
 use Rattle.entries.specs.Judging.{judged}
 use Rattle.text_words.specs.Words.{state}
 use Rattle.text_words.specs.declared.Reader.{Reader}
-use Rattle.text_words.specs.declared.Trouble.{Trouble}
+use Rattle.text_values.specs.declared.Trouble.{Trouble}
 use Rattle.text_words.specs.declared.Found.the-variants.{Well, Wrong}
 use Rattle.text_scan.specs.Scanning.{parsed}
 use Rattle.text_reader.specs.Reader.{faultPlace, shortReading, keptUnlessRead}

@@ -12,10 +12,10 @@ use Rattle.answers.specs.declared.Place.{Place}
 use Rattle.answers.specs.declared.Place.the-variants.{OfNothing, OfEntries, OfApproaches, OfMovements, OfBytes}
 use Rattle.answers.specs.declared.Refusal.{Refusal}
 use Rattle.entries.specs.Judging.{judged}
-use Rattle.text_words.specs.declared.Trouble.the-variants.{TooLong}
+use Rattle.text_values.specs.declared.Trouble.the-variants.{TooLong}
 use Rattle.text_words.specs.declared.Found.{Found}
 use Rattle.text_words.specs.declared.Found.the-variants.{Well, Wrong}
-use Rattle.text_scan.specs.Scanning.{parsed}
+use Rattle.text_scan.specs.Scanning.{markSize, parsed}
 use Rattle.text_reader.specs.declared.Reading.{Reading}
 use Rattle.text_reader.specs.declared.Reading.the-variants.{Read, Misread, Refused}
 
@@ -49,9 +49,9 @@ shortReading text = foundAs (parsed text .reader .found) (parsed text .entries) 
 abbrev pub textMost : ℕ
 textMost = 65_535
 
--- the entries, or the first thing wrong and where it stands in the text
+-- the entries, or the first thing wrong and where it stands in the text past its mark
 unfoldable pub reading : List ℕ → Reading
-reading text = cond (ltb textMost (length text)) (Misread TooLong textMost) (shortReading text)
+reading text = cond (ltb textMost (length text)) (Misread TooLong (textMost - markSize text)) (shortReading text)
 
 abbrev pub keptUnlessRead : Reading → List ℕ → List ℕ → List ℕ
 keptUnlessRead Read new old = new

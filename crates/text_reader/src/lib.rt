@@ -9,8 +9,8 @@ use answers::Place;
 use answers::Refusal;
 use kinds::Kind;
 use layout::ENTRIES;
+use text_values::Trouble;
 use text_words::Found;
-use text_words::Trouble;
 
 // The most bytes that a text has.
 pub const TEXT_MOST: usize = 65_535;
@@ -89,7 +89,10 @@ pub fn read(text: &[u8], entries: &mut [u32; ENTRIES]) -> Reading
     ensures { λ r. ⌜ now (entries .exit) ≡ keptUnlessRead (reading (now (text .entry))) (parsed (now (text .entry)) .entries) (now (entries .entry)) ⌝ }
 {
     if TEXT_MOST < text.len() {
-        return Reading::Misread(Trouble::TooLong, TEXT_MOST);
+        return Reading::Misread(
+            Trouble::TooLong,
+            TEXT_MOST - text_scan::mark_size(text),
+        );
     }
     read_short(text, entries)
 }

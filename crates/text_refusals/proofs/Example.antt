@@ -1,19 +1,25 @@
--- What is said of five refusals.
+-- What is said of six refusals.
 use mathlib.Core.Path.{_≡_, refl}
 use Rattle.answers.specs.declared.Refusal.the-variants.{Range, Shared, NoLane}
 use Rattle.answers.specs.declared.Answer.the-variants.{Refused as No}
-use Rattle.layout.specs.Entries.{buttonNo, cycleEntry, approachPlace, through, EB, NB}
+use Rattle.text_times.specs.Times.{decimals, fractionText, timeText}
+use Rattle.text_values.specs.Values.{valueText}
+use Rattle.layout.specs.Entries.{lostNo, buttonNo, cycleEntry, approachPlace, through, EB, NB}
 use Rattle.kinds.specs.Kinds.{kindAt}
 use Rattle.text_names.specs.Names.{wordTable, wordIn, classAt}
-use Rattle.text_words.specs.declared.Trouble.the-variants.{NotNumber}
+use Rattle.text_values.specs.declared.Trouble.the-variants.{NotNumber}
 use Rattle.text_reader.specs.declared.Reading.the-variants.{Misread, Refused}
 use Rattle.text.specs.Text.{ascii, joined, digits, decimal}
 use Rattle.text_phrases.specs.Phrases.{numbered, nameIn}
 use Rattle.text_places.specs.Places.{lineAt, columnAt, placeText}
-use Rattle.text_refusals.specs.Refusals.{rangeText, whyText, refusalText, answerText, readingText}
+use Rattle.text_refusals.specs.Refusals.{limitsText, rangeText, whyText, refusalText, answerText, readingText}
+
+time : rangeText lostNo ≡ ascii "EBL lost-time is outside 0s to 20s\n"
+unfolding ascii joined digits decimal decimals fractionText timeText valueText kindAt classAt wordTable wordIn nameIn limitsText rangeText
+time = refl
 
 range : answerText (No Range (approachPlace EB buttonNo)) ≡ ascii "R3: EB push-button is outside 0 to 1\n"
-unfolding ascii joined digits decimal numbered kindAt classAt wordTable wordIn nameIn rangeText whyText refusalText
+unfolding ascii joined digits decimal numbered valueText kindAt classAt wordTable wordIn nameIn limitsText rangeText whyText refusalText
 range = refl
 
 shared : answerText (No Shared NB) ≡ ascii "R4: NB: a shared lane needs a through lane and no left lane beside it\n"
@@ -24,10 +30,10 @@ noLane : answerText (No NoLane (through NB)) ≡ ascii "R5: NBT: vehicles, and n
 unfolding ascii joined digits decimal numbered wordTable wordIn nameIn whyText refusalText
 noLane = refl
 
-misread : readingText (ascii "EBL lanes 2\nvolume x") (Misread NotNumber 19) ≡ ascii "line 2, column 8: a whole number is expected here\n"
+misread : readingText (ascii "EBL lanes 2\nvolume x") (Misread NotNumber 19) ≡ ascii "line 2, column 8: a whole number without a unit is expected here\n"
 unfolding ascii digits decimal numbered lineAt columnAt placeText
 misread = refl
 
 refused : readingText (ascii "junction cycle 29") (Refused Range cycleEntry 15) ≡ ascii "line 1, column 16: R3: junction cycle is outside 30 to 240\n"
-unfolding ascii joined digits decimal numbered lineAt columnAt placeText kindAt classAt wordTable wordIn nameIn rangeText whyText refusalText
+unfolding ascii joined digits decimal numbered lineAt columnAt placeText valueText kindAt classAt wordTable wordIn nameIn limitsText rangeText whyText refusalText
 refused = refl

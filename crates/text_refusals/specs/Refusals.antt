@@ -10,21 +10,23 @@ use Rattle.answers.specs.declared.Refusal.the-variants.{Size, Entry, Range, Sha
 use Rattle.answers.specs.declared.Answer.{Answer}
 use Rattle.answers.specs.declared.Answer.the-variants.{Accepted, Refused as No}
 use Rattle.kinds.specs.Kinds.{limitsOf, kindAt}
+use Rattle.kinds.specs.declared.Kind.{Kind}
 use Rattle.text.specs.Text.{ascii}
 use Rattle.text_names.specs.Names.{wordCount, approaches}
 use Rattle.text_phrases.specs.Phrases.{numbered, nameIn, entryName}
+use Rattle.text_values.specs.Values.{valueText}
 use Rattle.text_places.specs.Places.{placeText}
 use Rattle.text_troubles.specs.Troubles.{troubleText}
 use Rattle.text_reader.specs.declared.Reading.{Reading}
 use Rattle.text_reader.specs.declared.Reading.the-variants.{Read, Misread, Refused}
 
+-- "0 to 6", "0s to 20s": the limits of a kind, as its values are typed
+unfoldable pub limitsText : Kind → List ℕ
+limitsText kind = valueText kind (limitsOf kind .least) ++ ascii " to " ++ valueText kind (limitsOf kind .most) ++ ascii "\n"
+
 -- "EBL lanes is outside 0 to 6"
 unfoldable pub rangeText : ℕ → List ℕ
-rangeText entry =
-    entryName entry
-    ++ numbered (ascii " is outside ") (limitsOf (kindAt entry) .least)
-    ++ numbered (ascii " to ") (limitsOf (kindAt entry) .most)
-    ++ ascii "\n"
+rangeText entry = entryName entry ++ ascii " is outside " ++ limitsText (kindAt entry)
 
 -- the row of an approach's name, if there is such an approach
 abbrev pub approachRow : ℕ → ℕ

@@ -1,6 +1,11 @@
 -- How long each saying is at most: no public promise says it.
 use Prim.Native.Nat.{ℕ, _+_}
 use Rattle.text.specs.Text.{digitMost}
+use Rattle.text_values.specs.Working.{valueMost}
+
+-- two values, " to " between them, and the end of the line
+abbrev pub limitsMost : ℕ
+limitsMost = valueMost + 4 + valueMost + 1
 
 -- the longest sentence of a refusal, a shared lane's, has 82; the rest is room for another
 abbrev pub whyMost : ℕ

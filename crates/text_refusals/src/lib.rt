@@ -3,24 +3,36 @@ ghost use Prim.Native.Nat.{_+_, _≤_};
 ghost use mathlib.Core.Path.{_≡_};
 ghost use lib.ListN.{length};
 ghost use Rattle.text.specs.Text.{Placed};
-ghost use Rattle.text_refusals.specs.Refusals.{rangeText, approachRow, fileText, whyText, refusalText, answerText, readingText};
-ghost use Rattle.text_refusals.specs.Working.{whyMost, refusalMost};
+ghost use Rattle.text_refusals.specs.Refusals.{limitsText, rangeText, approachRow, fileText, whyText};
+ghost use Rattle.text_refusals.specs.Refusals.{refusalText, answerText, readingText};
+ghost use Rattle.text_refusals.specs.Working.{limitsMost, whyMost, refusalMost};
 use answers::Answer;
 use answers::Refusal;
+use kinds::Kind;
 use text_reader::Reading;
 
 // Room for anything that is said: a place, and a refusal or a trouble.
 pub const SAYING_BYTES: usize = 256;
 
+// The limits of a kind, as its values are typed, at the end of a line.
+fn put_limits(out: &mut [u8], at: usize, kind: Kind) -> usize
+    requires { ⌜ at + limitsMost ≤ length (now out) ⌝ }
+    ensures { λ r. ⌜ Placed (now (out .entry)) at (limitsText kind) (now (out .exit)) r × (r ≤ at + limitsMost) ⌝ }
+{
+    let limits = kind.limits();
+    let least = text_values::put_value(out, at, kind, limits.least);
+    let parted = text::put_bytes(out, least, b" to ");
+    let most = text_values::put_value(out, parted, kind, limits.most);
+    text::put_byte(out, most, b'\n')
+}
+
 fn put_range(out: &mut [u8], at: usize, entry: u32) -> usize
     requires { ⌜ at + whyMost ≤ length (now out) ⌝ }
     ensures { λ r. ⌜ Placed (now (out .entry)) at (rangeText entry) (now (out .exit)) r × (r ≤ at + whyMost) ⌝ }
 {
-    let limits = kinds::Kind::at(entry as usize).limits();
     let named = text_phrases::put_entry_name(out, at, entry);
-    let least = text_phrases::put_numbered(out, named, b" is outside ", limits.least);
-    let most = text_phrases::put_numbered(out, least, b" to ", limits.most);
-    text::put_byte(out, most, b'\n')
+    let told = text::put_bytes(out, named, b" is outside ");
+    put_limits(out, told, Kind::at(entry as usize))
 }
 
 // The row of an approach's name in the table of words; past its end for a number that is no approach's.

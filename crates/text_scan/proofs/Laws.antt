@@ -1,14 +1,16 @@
--- Laws of the scan: one byte more of a text, and its end.
-use Prim.Native.Nat.{ℕ, _+_}
+-- Laws of the scan: one byte more of a text, its end, and its front.
+use Prim.Native.Nat.{ℕ, _+_, _<_, _≤_}
 use mathlib.Core.Path.{_≡_, _∙_}
-use mathlib.Core.Bool.{true, false}
+use mathlib.Core.Bool.{Bool, true, false, cond}
 use mathlib.Core.List.{List}
-use lib.ListN.{length, getD}
+use lib.ListN.{length, getD, List·getD-eq-default}
 use lib.Dec.{eqb}
 use native.Mathlib.Numerals.{add-one}
+use native.Mathlib.Decide.{decLt}
+use native.Mathlib.Omega.{arith}
 use Rattle.text_words.specs.Words.{state}
 use Rattle.text_words.specs.declared.Reader.{Reader}
-use Rattle.text_scan.specs.Scanning.{Scan, hash, endsWord, wordTaken, next, scanned, ended, lastTaken, parsed}
+use Rattle.text_scan.specs.Scanning.{Scan, hash, endsWord, wordTaken, next, scanned, ended, lastTaken, wordsParsed, isMarked, markSize}
 
 -- one byte more of a text
 pub scan-more : (text : List ℕ) (n : ℕ) {one two : Scan} → one ≡ scanned text n → two ≡ next text n one → two ≡ scanned text (n + 1)
@@ -30,8 +32,23 @@ module _ (text : List ℕ) (n : ℕ) (s : Scan) (said : s .isComment ≡ false) 
 -- the end of the text
 pub all-parsed : (text : List ℕ) (n : ℕ) {s : Scan} {one two : Reader} {entries places : List ℕ} → n ≡ length text → s ≡ scanned text n
     → state one entries places ≡ wordTaken text n s → two ≡ ended n one
-    → state two entries places ≡ parsed text
-unfolding parsed
+    → state two entries places ≡ wordsParsed text
+unfolding wordsParsed
 all-parsed text n {s} {one} {two} {entries} {places} end so last is =
     let w : state one entries places ≡ lastTaken text = last ∙ rw (so, end) in
     rw (← w, ← end, is)
+
+-- a byte that is not 0 stands within the text
+pub within-text : (text : List ℕ) (i byte : ℕ) → getD text i 0 ≡ byte → 0 < byte → i < length text
+within-text text i byte is some = by (decLt i (length text))
+  where
+    by : Dec (i < length text) → i < length text
+    by (yes h) = h
+    by (no h) = absurd (omega (arith, List·getD-eq-default text 0 {n = i} (omega arith), is, some))
+
+pub mark-few : (text : List ℕ) → markSize text ≤ 3
+mark-few text = by (isMarked text)
+  where
+    by : (b : Bool) → cond b 3 0 ≤ 3
+    by true = omega arith
+    by false = omega arith

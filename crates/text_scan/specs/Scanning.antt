@@ -1,7 +1,7 @@
 -- A junction as text. Blanks part the words, `#` begins a comment that ends with its line, and an entry that is not written
--- has its kind's usual value.
+-- has its kind's usual value. A byte-order mark at the front is passed over: places in the text are counted past it.
 use Prim.Native.Nat.{ℕ, zero, suc, _+_, _-_}
-use mathlib.Core.Bool.{Bool, true, false, cond, not, _||_}
+use mathlib.Core.Bool.{Bool, true, false, cond, not, _&&_, _||_}
 use mathlib.Core.List.{List}
 use lib.ListN.{length, getD, take, drop, replicate}
 use lib.Dec.{eqb, ltb}
@@ -10,7 +10,7 @@ use Rattle.lists.specs.Lists.{table}
 use Rattle.kinds.specs.Kinds.{limitsOf, kindAt}
 use Rattle.text_names.specs.Names.{space, lineFeed, titleCount}
 use Rattle.text_words.specs.Words.{stands, wrong, unless, State, state, taken}
-use Rattle.text_words.specs.declared.Trouble.the-variants.{Ends}
+use Rattle.text_values.specs.declared.Trouble.the-variants.{Ends}
 use Rattle.text_words.specs.declared.Reader.{Reader}
 
 abbrev pub tab : ℕ
@@ -72,5 +72,19 @@ ended size reader = unless (reader .found) reader (cond (ltb (reader .wanted) en
 abbrev pub lastTaken : List ℕ → State
 lastTaken text = wordTaken text (length text) (scanned text (length text))
 
-unfoldable pub parsed : List ℕ → State
-parsed text = state (ended (length text) (lastTaken text .reader)) (lastTaken text .entries) (lastTaken text .places)
+unfoldable pub wordsParsed : List ℕ → State
+wordsParsed text = state (ended (length text) (lastTaken text .reader)) (lastTaken text .entries) (lastTaken text .places)
+
+-- a byte-order mark has the bytes EF BB BF
+abbrev pub isMarked : List ℕ → Bool
+isMarked text = eqb (getD text 0 0) 239 && (eqb (getD text 1 0) 187 && eqb (getD text 2 0) 191)
+
+abbrev pub markSize : List ℕ → ℕ
+markSize text = cond (isMarked text) 3 0
+
+-- the text past its mark
+abbrev pub unmarked : List ℕ → List ℕ
+unmarked text = drop (markSize text) text
+
+abbrev pub parsed : List ℕ → State
+parsed text = wordsParsed (unmarked text)

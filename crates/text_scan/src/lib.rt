@@ -1,16 +1,17 @@
 // A junction's text scanned: its words are found, and taken one after the other.
 ghost use mathlib.Core.Path.{_≡_};
 ghost use Prim.Native.Nat.{_≤_, _<_};
-ghost use lib.ListN.{length, replicate};
+ghost use lib.ListN.{length, getD, replicate};
 ghost use Rattle.layout.specs.Entries.{entryCount};
 ghost use Rattle.lists.specs.Lists.{table};
 ghost use Rattle.text_words.specs.Words.{state};
-ghost use Rattle.text_scan.specs.Scanning.{isBlank, endsWord, wordTaken, next, usually, ended, parsed};
+ghost use Rattle.text_scan.specs.Scanning.{isBlank, endsWord, wordTaken, next, usually, ended, wordsParsed};
+ghost use Rattle.text_scan.specs.Scanning.{markSize, unmarked, parsed};
 ghost use Rattle.text_scan.specs.Working.{scan};
 use layout::ENTRIES;
+use text_values::Trouble;
 use text_words::Found;
 use text_words::Reader;
-use text_words::Trouble;
 
 // The reader, the place where a word begins that is not taken yet, and whether a comment goes on.
 struct Cursor {
@@ -34,7 +35,8 @@ fn is_blank(byte: u8) -> bool
     byte == b'\n'
 }
 
-fn ends_word(byte: u8) -> bool
+// Whether a byte ends the word before it.
+pub fn ends_word(byte: u8) -> bool
     ensures { λ r. ⌜ r ≡ endsWord byte ⌝ }
 {
     if is_blank(byte) {
@@ -102,10 +104,44 @@ fn end(size: usize, reader: Reader) -> Reader
     reader
 }
 
-// Takes every word of a text.
-pub fn parse(text: &[u8], entries: &mut [u32], places: &mut [usize]) -> Reader
+// The byte at a place; 0 past the end.
+fn byte_at(text: &[u8], place: usize) -> u8
+    ensures { λ r. ⌜ r ≡ getD (now (text .entry)) place 0 ⌝ }
+{
+    if place < text.len() {
+        return text[place];
+    }
+    0
+}
+
+// The bytes of the byte-order mark at the front of a text; 0 if it has none.
+pub fn mark_size(text: &[u8]) -> usize
+    ensures { λ r. ⌜ (r ≡ markSize (now (text .entry))) × (r ≤ length (now (text .entry))) ⌝ }
+{
+    if byte_at(text, 0) != b'\xEF' {
+        return 0;
+    }
+    if byte_at(text, 1) != b'\xBB' {
+        return 0;
+    }
+    if byte_at(text, 2) != b'\xBF' {
+        return 0;
+    }
+    3
+}
+
+// The part of a text past its byte-order mark: all of it, if it has none.
+pub fn unmarked(text: &[u8]) -> &[u8]
+    ensures { λ r. ⌜ now r ≡ unmarked (now (text .entry)) ⌝ }
+{
+    let from = mark_size(text);
+    &text[from..]
+}
+
+// Takes every word of a text that has no mark.
+fn parse_words(text: &[u8], entries: &mut [u32], places: &mut [usize]) -> Reader
     requires { ⌜ (now entries ≡ table usually entryCount) × (now places ≡ replicate entryCount 0) ⌝ }
-    ensures { λ r. ⌜ state r (now (entries .exit)) (now (places .exit)) ≡ parsed (now (text .entry)) ⌝ }
+    ensures { λ r. ⌜ state r (now (entries .exit)) (now (places .exit)) ≡ wordsParsed (now (text .entry)) ⌝ }
 {
     let mut cursor = Cursor {
         reader: Reader::stands(text_names::TITLES, ENTRIES),
@@ -118,4 +154,12 @@ pub fn parse(text: &[u8], entries: &mut [u32], places: &mut [usize]) -> Reader
         n += 1;
     }
     end(n, take_word(text, n, cursor, entries, places))
+}
+
+// Takes every word of a text.
+pub fn parse(text: &[u8], entries: &mut [u32], places: &mut [usize]) -> Reader
+    requires { ⌜ (now entries ≡ table usually entryCount) × (now places ≡ replicate entryCount 0) ⌝ }
+    ensures { λ r. ⌜ state r (now (entries .exit)) (now (places .exit)) ≡ parsed (now (text .entry)) ⌝ }
+{
+    parse_words(unmarked(text), entries, places)
 }

@@ -1,6 +1,6 @@
 -- What is written is read back: the text of any entries is read as those entries. Each word of the table is found in its own
 -- row, each entry's text sets that entry, and so do the texts of all the entries, one after the other.
-use Prim.Native.Nat.{ℕ, zero, suc, _+_, _^_, _<_, _≤_}
+use Prim.Native.Nat.{ℕ, zero, suc, _+_, _-_, _^_, _<_, _≤_}
 use mathlib.Core.Path.{_≡_, refl, sym, _∙_}
 use mathlib.Core.Bool.{Bool, true, false, cond, not, _&&_, _||_}
 use mathlib.Core.List.{List, [], _∷_, _++_, append-assoc}
@@ -17,19 +17,21 @@ use Rattle.lists.proofs.Laws.{length-table, table-at, filled-more, filled-all}
 use Rattle.lists.proofs.Tests.{holds-below, both-true, at-each}
 use Rattle.answers.specs.declared.Answer.the-variants.{Accepted}
 use Rattle.entries.specs.Judging.{judged}
-use Rattle.text.specs.Text.{ascii, joined, digit, decimal, numberThen}
-use Rattle.text.proofs.Laws.{decimal-digits}
-use Rattle.text_numbers.specs.Numbers.{notNumber}
-use Rattle.text_numbers.proofs.Laws.{decimal-some, number-read}
+use Rattle.kinds.specs.Kinds.{kindAt}
+use Rattle.text.specs.Text.{ascii, joined}
+use Rattle.text_numbers.specs.Numbers.{tooLarge}
+use Rattle.text_times.specs.Times.{point}
+use Rattle.text_values.specs.Values.{valueText}
+use Rattle.text_values.proofs.Laws.{value-read, value-bytes, value-some}
 use Rattle.text_names.specs.Names.{space, lineFeed, titleCount, wordCount, wordTable, wordIn, wordOf, agrees, isWord, foundIn, rowOf, junction}
 use Rattle.text_names.specs.Names.{classAt, titleOf, kindOf, isFirst, isLast}
 use Rattle.text_names.proofs.Laws.{in-place}
 use Rattle.text_words.specs.Words.{stands, State, state}
 use Rattle.text_words.proofs.Laws.{title-named, kind-named, value-set}
-use Rattle.text_scan.specs.Scanning.{tab, carriageReturn, hash, endsWord, wordTaken, scanned, start, usually, ended, parsed}
+use Rattle.text_scan.specs.Scanning.{tab, carriageReturn, hash, endsWord, wordTaken, scanned, start, usually, ended, wordsParsed, unmarked, parsed}
 use Rattle.text_reader.specs.Reader.{textMost, shortReading, reading, keptUnlessRead}
 use Rattle.text_reader.specs.declared.Reading.the-variants.{Read}
-use Rattle.text_writer.specs.Writer.{opening, closing, entryText, entryTexts, junctionText}
+use Rattle.text_writer.specs.Writer.{opening, closing, named, entryText, entryTexts, junctionText}
 use Rattle.text_writer.proofs.Laws.{length-entryTexts}
 use Rattle.text_theorems.proofs.Reading.{Has, has-first, has-second, Reads, reads-both, Word, Blank, reads-word}
 
@@ -66,10 +68,10 @@ in-table row h =
       };
     }
 
--- a number is one word of a text
+-- a value is one word of a text
 
-plain-digit : (byte : ℕ) → digit 0 ≤ byte → byte < digit 10 → endsWord byte ≡ false
-plain-digit byte low high =
+plain-byte : (byte : ℕ) → point ≤ byte → endsWord byte ≡ false
+plain-byte byte low =
     simp (
       ne-eqb byte space (λ e. omega arith),
       ne-eqb byte tab (λ e. omega arith),
@@ -78,13 +80,11 @@ plain-digit byte low high =
       ne-eqb byte hash (λ e. omega arith),
     )
 
-decimal-word : (number : ℕ) → number < notNumber → Word (decimal number)
-decimal-word number fits =
+value-word : (i value : ℕ) → value < tooLarge → Word (valueText (kindAt i) value)
+value-word i value fits =
     record {
-      some = decimal-some number fits;
-      plain = λ i h.
-          let digit = decimal-digits number i h in
-          plain-digit (getD (decimal number) i 0) (digit .0) (digit .1);
+      some = value-some (kindAt i) value fits;
+      plain = λ j h. plain-byte (getD (valueText (kindAt i) value) j 0) (value-bytes (kindAt i) value fits j h);
     }
 
 -- and a space or a new line ends it
@@ -100,9 +100,6 @@ closing-blank i = by (isLast i)
     by false = space-blank
 
 -- an entry's text sets that entry, from a state under its title, or under any if the text names the title
-
-abbrev named : ℕ → List ℕ
-named i = opening i ++ (wordOf (titleCount + kindOf i) ++ (space ∷ []))
 
 module _ (text : List ℕ) (at i title : ℕ) (entries places : List ℕ)
     (h : i < entryCount) (same : isFirst i ≡ false → title ≡ titleOf i) where
@@ -128,9 +125,11 @@ module _ (text : List ℕ) (at i title : ℕ) (entries places : List ℕ)
 
   reads-named : getD places i 0 ≡ 0 → Has text at (named i)
       → Reads text at (named i) before (state (stands (titleOf i) i) entries places)
-  reads-named none has =
+  unfolding named
+  reads-named none whole =
       let word = wordOf (titleCount + kindOf i) in
       let name = word ++ (space ∷ []) in
+      let has = rw (append-assoc (opening i) word (space ∷ [])) at whole in
       let past = at + length (opening i) in
       let under = in-place i h in
       let there : titleCount + kindOf i < wordCount = omega (arith, under .kind) in
@@ -138,24 +137,25 @@ module _ (text : List ℕ) (at i title : ℕ) (entries places : List ℕ)
       let takes = kind-named past word (titleOf i) entries places (kindOf i) i (row .is) there (under .title) in
       let is = takes (under .has) (under .entry) none in
       let second = has-second text at (opening i) name has in
-      reads-both text at (opening i) name (reads-opening (has-first text at (opening i) name has))
-      (rw is at (reads-word text past word space titled second (row .word) space-blank))
+      rw (append-assoc (opening i) word (space ∷ []))
+      (reads-both text at (opening i) name (reads-opening (has-first text at (opening i) name has))
+      (rw is at (reads-word text past word space titled second (row .word) space-blank)))
 
-  reads-entry : (value : ℕ) → value < notNumber → getD places i 0 ≡ 0 → Has text at (entryText i value)
+  reads-entry : (value : ℕ) → value < tooLarge → getD places i 0 ≡ 0 → Has text at (entryText i value)
       → Reads text at (entryText i value) before
       (state (stands (titleOf i) entryCount) (set entries i value) (set places i (at + length (named i) + 1)))
-  unfolding entryText numberThen
+  unfolding entryText
   reads-entry value fits none whole =
-      let word = wordOf (titleCount + kindOf i) in
-      let number = decimal value ++ (closing i ∷ []) in
+      let word = valueText (kindAt i) value in
+      let told = word ++ (closing i ∷ []) in
       let past = at + length (named i) in
-      let has = rw (append-assoc (opening i) word (space ∷ [])) at whole in
-      let is = value-set past (decimal value) (titleOf i) entries places i value (number-read value fits) fits h in
+      let has = rw (append-assoc (named i) word (closing i ∷ [])) at whole in
+      let is = value-set past word (titleOf i) entries places i value (value-read (kindAt i) value fits) h in
       let due = state (stands (titleOf i) i) entries places in
-      let second = has-second text at (named i) number has in
-      rw (append-assoc (opening i) word (space ∷ []))
-      (reads-both text at (named i) number (reads-named none (has-first text at (named i) number has))
-      (rw is at (reads-word text past (decimal value) (closing i) due second (decimal-word value fits) (closing-blank i))))
+      let second = has-second text at (named i) told has in
+      rw (append-assoc (named i) word (closing i ∷ []))
+      (reads-both text at (named i) told (reads-named none (has-first text at (named i) told has))
+      (rw is at (reads-word text past word (closing i) due second (value-word i value fits) (closing-blank i))))
 
 -- the title that was named last, past the first n entries, is that of the next unless the next is its title's first
 
@@ -190,7 +190,7 @@ zeros zero i = refl
 zeros (suc n) zero = refl
 zeros (suc n) (suc i) = zeros n i
 
-module _ (e text : List ℕ) (fits : AllBelow notNumber e) where
+module _ (e text : List ℕ) (fits : AllBelow tooLarge e) where
   one-more : (n : ℕ) → n < entryCount → Has text (0 + length (entryTexts e n)) (entryText n (valueIn e n))
       → Reached e text n → Reached e text (suc n)
   unfolding entryTexts
@@ -221,6 +221,26 @@ module _ (e text : List ℕ) (fits : AllBelow notNumber e) where
       one-more n (omega arith) (has-second text 0 (entryTexts e n) entry has)
       (reached n (omega arith) (has-first text 0 (entryTexts e n) entry has))
 
+-- what is written begins with the E of the first title, so with no mark
+
+begins : (first second : List ℕ) (byte : ℕ) → 0 < byte → getD first 0 0 ≡ byte → getD (first ++ second) 0 0 ≡ byte
+begins [] second byte some is = absurd (omega (arith, some, is))
+begins (x ∷ first) second byte some is = is
+
+abbrev letterE : ℕ
+letterE = 69
+
+text-begins : (e : List ℕ) (n : ℕ) → getD (entryTexts e (suc n)) 0 0 ≡ letterE
+unfolding entryTexts entryText named opening wordTable ascii joined wordIn classAt
+text-begins e zero =
+    let value = valueText (kindAt 0) (valueIn e 0) in
+    begins (named 0 ++ value) (closing 0 ∷ []) letterE (omega arith) (begins (named 0) value letterE (omega arith) refl)
+text-begins e (suc n) =
+    begins (entryTexts e (suc n)) (entryText (suc n) (valueIn e (suc n))) letterE (omega arith) (text-begins e n)
+
+no-mark : (text : List ℕ) → getD text 0 0 ≡ letterE → unmarked text ≡ text
+no-mark text is = rw is
+
 -- as many numbers of 32 bits as there are entries, written and read
 
 module _ (e : List ℕ) (size : length e ≡ entryCount) (fits : AllBelow (2 ^ 32) e) where
@@ -235,10 +255,14 @@ module _ (e : List ℕ) (size : length e ≡ entryCount) (fits : AllBelow (2 ^ 3
       ∙ ext-getD 0 (table value entryCount) e (l ∙ sym size) (λ i h. table-at value entryCount i (omega arith))
 
   parsed-back : parsed (junctionText e) ≡ state (stands (junction .title) entryCount) e (all-reached .places)
-  unfolding parsed ended wordTaken scanned classAt
+  unfolding wordsParsed ended wordTaken scanned classAt
   parsed-back =
       let end = length (junctionText e) in
-      rw (rw (zero-add, all-set) at (all-reached .reads refl), le-ltb end end (omega arith))
+      rw (
+        no-mark (junctionText e) (text-begins e (entryCount - 1)),
+        rw (zero-add, all-set) at (all-reached .reads refl),
+        le-ltb end end (omega arith),
+      )
 
   -- what is read is what was written
   pub entries-back : parsed (junctionText e) .entries ≡ e

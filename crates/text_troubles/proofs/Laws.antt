@@ -2,7 +2,7 @@
 use Prim.Native.Nat.{ℕ}
 use mathlib.Core.Path.{_≡_}
 use mathlib.Core.List.{List}
-use Rattle.text_words.specs.declared.Trouble.{Trouble}
+use Rattle.text_values.specs.declared.Trouble.{Trouble}
 use Rattle.text.specs.Text.{Placed}
 use Rattle.text_troubles.specs.Troubles.{troubleText}
 

@@ -2,8 +2,9 @@
 use Prim.Native.Nat.{ℕ}
 use mathlib.Core.List.{List}
 use Rattle.text.specs.Text.{ascii}
-use Rattle.text_words.specs.declared.Trouble.{Trouble}
-use Rattle.text_words.specs.declared.Trouble.the-variants.{Unknown, NoTitle, NotOfTitle, Twice, NotNumber, Ends, TooLong}
+use Rattle.text_values.specs.declared.Trouble.{Trouble}
+use Rattle.text_values.specs.declared.Trouble.the-variants.{Unknown, NoTitle, NotOfTitle, Twice}
+use Rattle.text_values.specs.declared.Trouble.the-variants.{NotNumber, NotTime, TooLarge, Ends, TooLong}
 
 -- a row for each trouble
 abbrev pub troubleText : Trouble → List ℕ
@@ -11,6 +12,8 @@ troubleText Unknown = ascii "no movement, approach or entry has this name\n"
 troubleText NoTitle = ascii "name a movement, an approach or the junction before its entries\n"
 troubleText NotOfTitle = ascii "what was named before has no such entry\n"
 troubleText Twice = ascii "this entry was written before\n"
-troubleText NotNumber = ascii "a whole number is expected here\n"
-troubleText Ends = ascii "the text ends where a number is expected\n"
+troubleText NotNumber = ascii "a whole number without a unit is expected here\n"
+troubleText NotTime = ascii "a time is written with its unit, as 4s, 4.5s or 4000ms\n"
+troubleText TooLarge = ascii "this number is too large\n"
+troubleText Ends = ascii "the text ends where a value is expected\n"
 troubleText TooLong = ascii "a text has at most 65535 bytes\n"

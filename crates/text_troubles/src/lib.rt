@@ -4,7 +4,7 @@ ghost use lib.ListN.{length};
 ghost use Rattle.text.specs.Text.{Placed};
 ghost use Rattle.text_troubles.specs.Troubles.{troubleText};
 ghost use Rattle.text_troubles.specs.Working.{troubleMost};
-use text_words::Trouble;
+use text_values::Trouble;
 
 // A sentence for each trouble.
 pub fn put_trouble(out: &mut [u8], at: usize, why: Trouble) -> usize
@@ -28,8 +28,18 @@ pub fn put_trouble(out: &mut [u8], at: usize, why: Trouble) -> usize
             b"what was named before has no such entry\n",
         ),
         Trouble::Twice => text::put_bytes(out, at, b"this entry was written before\n"),
-        Trouble::NotNumber => text::put_bytes(out, at, b"a whole number is expected here\n"),
-        Trouble::Ends => text::put_bytes(out, at, b"the text ends where a number is expected\n"),
+        Trouble::NotNumber => text::put_bytes(
+            out,
+            at,
+            b"a whole number without a unit is expected here\n",
+        ),
+        Trouble::NotTime => text::put_bytes(
+            out,
+            at,
+            b"a time is written with its unit, as 4s, 4.5s or 4000ms\n",
+        ),
+        Trouble::TooLarge => text::put_bytes(out, at, b"this number is too large\n"),
+        Trouble::Ends => text::put_bytes(out, at, b"the text ends where a value is expected\n"),
         Trouble::TooLong => text::put_bytes(out, at, b"a text has at most 65535 bytes\n"),
     }
 }

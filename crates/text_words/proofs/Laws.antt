@@ -7,7 +7,9 @@ use lib.ListN.{getD, set}
 use borrow.Author.Tests.{lt-ltb, le-ltb}
 use native.Mathlib.Omega.{arith}
 use Rattle.layout.specs.Entries.{entryCount}
-use Rattle.text_numbers.specs.Numbers.{notNumber, numberOf}
+use Rattle.kinds.specs.Kinds.{kindAt}
+use Rattle.text_values.specs.Values.{valueOf}
+use Rattle.text_values.specs.declared.Value.the-variants.{Is}
 use Rattle.text_names.specs.Names.{titleCount, wordCount, hasKind, entryIn, rowOf}
 use Rattle.text_words.specs.Words.{stands, State, state, takenValue, takenKind, takenName, taken}
 use Rattle.text_words.specs.declared.Found.the-variants.{Well}
@@ -50,8 +52,8 @@ module _ (place : ℕ) (word : List ℕ) (title : ℕ) (entries places : List �
         none,
       )
 
-  pub value-set : (entry value : ℕ) → numberOf word ≡ value → value < notNumber → entry < entryCount
+  pub value-set : (entry value : ℕ) → valueOf (kindAt entry) word ≡ Is value → entry < entryCount
       → taken place word (state (stands title entry) entries places)
       ≡ state (stands title entryCount) (set entries entry value) (set places entry (place + 1))
   unfolding taken takenValue
-  value-set entry value is fits h = simp (lt-ltb entry entryCount h, is, lt-ltb value notNumber fits)
+  value-set entry value is h = rw (lt-ltb entry entryCount h, is)

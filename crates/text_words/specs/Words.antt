@@ -1,15 +1,18 @@
 -- The words of a junction as text, one after the other. A title (EBL to SBR, EB to SB, junction), then names and values of its
--- entries: `EBL lanes 1 volume 100`.
+-- entries: `EBL lanes 1 volume 100 lost-time 4s`.
 use Prim.Native.Nat.{ℕ, _+_, _-_}
 use mathlib.Core.Bool.{cond, not}
 use mathlib.Core.List.{List}
 use lib.ListN.{getD, set}
 use lib.Dec.{ltb}
 use Rattle.layout.specs.Entries.{entryCount}
-use Rattle.text_numbers.specs.Numbers.{notNumber, numberOf}
+use Rattle.kinds.specs.Kinds.{kindAt}
+use Rattle.text_values.specs.Values.{valueOf}
+use Rattle.text_values.specs.declared.Value.{Value}
+use Rattle.text_values.specs.declared.Value.the-variants.{Is, Not}
+use Rattle.text_values.specs.declared.Trouble.{Trouble}
+use Rattle.text_values.specs.declared.Trouble.the-variants.{Unknown, NoTitle, NotOfTitle, Twice}
 use Rattle.text_names.specs.Names.{wordCount, titleCount, rowOf, hasKind, entryIn}
-use Rattle.text_words.specs.declared.Trouble.{Trouble}
-use Rattle.text_words.specs.declared.Trouble.the-variants.{Unknown, NoTitle, NotOfTitle, Twice, NotNumber}
 use Rattle.text_words.specs.declared.Found.{Found}
 use Rattle.text_words.specs.declared.Found.the-variants.{Well, Wrong}
 use Rattle.text_words.specs.declared.Reader.{Reader}
@@ -45,14 +48,17 @@ pub record State : Type 0 where
 abbrev pub state : Reader → List ℕ → List ℕ → State
 state reader entries places = record { reader = reader; entries = entries; places = places }
 
+-- a value where one is due, or what is wrong with it
+abbrev pub valued : Value → ℕ → State → State
+valued (Is value) place s =
+    state (stands (s .reader .title) entryCount)
+    (set (s .entries) (s .reader .wanted) value)
+    (set (s .places) (s .reader .wanted) (place + 1))
+valued (Not why) place s = state (wrong why place (s .reader)) (s .entries) (s .places)
+
 -- a word where a value is due
 unfoldable pub takenValue : ℕ → List ℕ → State → State
-takenValue place word s =
-    cond (ltb (numberOf word) notNumber)
-    (state (stands (s .reader .title) entryCount)
-    (set (s .entries) (s .reader .wanted) (numberOf word))
-    (set (s .places) (s .reader .wanted) (place + 1)))
-    (state (wrong NotNumber place (s .reader)) (s .entries) (s .places))
+takenValue place word s = valued (valueOf (kindAt (s .reader .wanted)) word) place s
 
 -- the first thing wrong stays
 abbrev pub unless : {A : Type 0} → Found → A → A → A

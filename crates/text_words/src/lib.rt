@@ -5,19 +5,10 @@ ghost use lib.ListN.{length};
 ghost use Rattle.layout.specs.Entries.{entryCount};
 ghost use Rattle.text_names.specs.Names.{kindCount};
 ghost use Rattle.text_words.specs.Words.{stands, wrong, takenKind, takenName, state, takenValue, taken};
+use kinds::Kind;
 use layout::ENTRIES;
-use text_numbers::NOT_NUMBER;
-
-// What can be wrong with a text.
-pub enum Trouble {
-    Unknown,
-    NoTitle,
-    NotOfTitle,
-    Twice,
-    NotNumber,
-    Ends,
-    TooLong,
-}
+use text_values::Trouble;
+use text_values::Value;
 
 pub enum Found {
     Well,
@@ -96,14 +87,16 @@ fn take_value(
     ensures { λ r. ⌜ state r (now (entries .exit)) (now (places .exit))
         ≡ takenValue place (now (word .entry)) (state reader (now (entries .entry)) (now (places .entry))) ⌝ }
 {
-    let number = text_numbers::number_of(word);
-    if NOT_NUMBER <= number {
-        return reader.wrong(Trouble::NotNumber, place);
-    }
     let wanted = reader.wanted;
-    entries[wanted] = number as u32;
-    places[wanted] = place + 1;
-    Reader::stands(reader.title, ENTRIES)
+    let value = text_values::value_of(Kind::at(wanted), word);
+    match value {
+        Value::Is(number) => {
+            entries[wanted] = number;
+            places[wanted] = place + 1;
+            Reader::stands(reader.title, ENTRIES)
+        }
+        Value::Not(why) => reader.wrong(why, place),
+    }
 }
 
 // Takes a word that begins at a place; after the first thing wrong, nothing any more.

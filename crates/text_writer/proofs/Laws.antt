@@ -7,12 +7,15 @@ use lib.ListN.{length, getD, length-append}
 use native.Mathlib.Numerals.{add-one}
 use native.Mathlib.Omega.{arith}
 use Rattle.lists.proofs.Laws.{over-nothing}
-use Rattle.text.specs.Text.{numberThen, Placed}
-use Rattle.text.proofs.Laws.{length-numberThen, placed-next}
+use Rattle.kinds.specs.Kinds.{kindAt}
+use Rattle.text.specs.Text.{Placed}
+use Rattle.text.proofs.Laws.{placed-next}
+use Rattle.text_values.specs.Values.{valueText}
+use Rattle.text_values.proofs.Laws.{length-value}
 use Rattle.text_names.specs.Names.{space, wordWidth, titleCount, wordOf, titleOf, kindOf, isFirst}
 use Rattle.text_names.proofs.Laws.{length-word}
-use Rattle.text_writer.specs.Writer.{opening, closing, entryText, entryTexts}
-use Rattle.text_writer.specs.Working.{openingMost, entryMost}
+use Rattle.text_writer.specs.Writer.{opening, closing, named, entryText, entryTexts}
+use Rattle.text_writer.specs.Working.{openingMost, namedMost, entryMost}
 
 -- where a word ends that was put
 pub number-past : {list one : List ℕ} {at n : ℕ} (row : ℕ) → Placed list at (wordOf row) one n → n ≤ at + wordWidth
@@ -47,36 +50,29 @@ module _ {list : List ℕ} {at : ℕ} (i : ℕ) where
 
 -- an entry
 
-pub length-entryText : (i value : ℕ) → length (entryText i value) ≤ entryMost
-unfolding entryText
-length-entryText i value =
+length-named : (i : ℕ) → length (named i) ≤ namedMost
+unfolding named
+length-named i =
     let word = wordOf (titleCount + kindOf i) in
-    let number = numberThen value (closing i) in
     omega (
       arith,
-      length-append (opening i ++ word ++ (space ∷ [])) number,
       length-append (opening i ++ word) (space ∷ []),
       length-append (opening i) word,
       length-opening i,
       length-word (titleCount + kindOf i),
-      length-numberThen value (closing i),
     )
 
-pub entry-put : {list one two three four : List ℕ} {at n m p q : ℕ} (i value : ℕ) → at + entryMost ≤ length list
-    → Placed list at (opening i) one n
-    → Placed one n (wordOf (titleCount + kindOf i)) two m
-    → Placed two m (space ∷ []) three p
-    → Placed three p (numberThen value (closing i)) four q
-    → Placed list at (entryText i value) four q
+pub length-entryText : (i value : ℕ) → length (entryText i value) ≤ entryMost
 unfolding entryText
-entry-put i value room opened named spaced told =
-    let word = wordOf (titleCount + kindOf i) in
-    let l = length-append (opening i) word in
-    let k = length-append (opening i ++ word) (space ∷ []) in
-    let a = length-opening i in
-    let b = length-word (titleCount + kindOf i) in
-    let d = length-numberThen value (closing i) in
-    placed-next (placed-next (placed-next opened named (omega arith)) spaced (omega arith)) told (omega arith)
+length-entryText i value =
+    let text = valueText (kindAt i) value in
+    omega (
+      arith,
+      length-append (named i ++ text) (closing i ∷ []),
+      length-append (named i) text,
+      length-named i,
+      length-value (kindAt i) value,
+    )
 
 -- the first n entries
 

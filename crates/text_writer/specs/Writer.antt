@@ -4,7 +4,8 @@ use mathlib.Core.Bool.{cond}
 use mathlib.Core.List.{List, [], _∷_, _++_}
 use lib.ListN.{getD}
 use Rattle.layout.specs.Entries.{entryCount}
-use Rattle.text.specs.Text.{numberThen}
+use Rattle.kinds.specs.Kinds.{kindAt}
+use Rattle.text_values.specs.Values.{valueText}
 use Rattle.text_names.specs.Names.{space, lineFeed, titleCount, wordOf, titleOf, kindOf, isFirst, isLast}
 
 -- a title stands before its first entry
@@ -15,9 +16,13 @@ opening i = cond (isFirst i) (wordOf (titleOf i) ++ (space ∷ [])) []
 abbrev pub closing : ℕ → ℕ
 closing i = cond (isLast i) lineFeed space
 
+-- an entry's name, after its title if it is the first
+unfoldable pub named : ℕ → List ℕ
+named i = opening i ++ wordOf (titleCount + kindOf i) ++ (space ∷ [])
+
 -- an entry's name and value
 unfoldable pub entryText : ℕ → ℕ → List ℕ
-entryText i value = opening i ++ wordOf (titleCount + kindOf i) ++ (space ∷ []) ++ numberThen value (closing i)
+entryText i value = named i ++ valueText (kindAt i) value ++ (closing i ∷ [])
 
 unfoldable pub entryTexts : List ℕ → ℕ → List ℕ
 entryTexts e zero = []

@@ -5,11 +5,12 @@ ghost use lib.ListN.{length};
 ghost use Rattle.layout.specs.Entries.{entryCount};
 ghost use Rattle.lists.specs.Lists.{over};
 ghost use Rattle.text.specs.Text.{Placed};
-ghost use Rattle.text_writer.specs.Writer.{opening, closing, entryText, junctionText};
-ghost use Rattle.text_writer.specs.Working.{openingMost, entryMost};
+ghost use Rattle.text_writer.specs.Writer.{opening, closing, named, entryText, junctionText};
+ghost use Rattle.text_writer.specs.Working.{openingMost, namedMost, entryMost};
+use kinds::Kind;
 
 // A title, a name, and a value, each with the byte past it.
-const ENTRY_MOST: usize = 2 * (text_names::WIDTH + 1) + (text::DIGITS_MOST + 1);
+const ENTRY_MOST: usize = 2 * (text_names::WIDTH + 1) + (text_values::VALUE_MOST + 1);
 
 // Room for the text of any entries.
 pub const TEXT_BYTES: usize = ENTRY_MOST * layout::ENTRIES;
@@ -35,16 +36,25 @@ fn closing(entry: u32) -> u8
     b' '
 }
 
+// An entry's name, after its title if it is the first.
+fn put_named(out: &mut [u8], at: usize, entry: u32) -> usize
+    requires { ⌜ (entry < entryCount) × (at + namedMost ≤ length (now out)) ⌝ }
+    ensures { λ r. ⌜ Placed (now (out .entry)) at (named entry) (now (out .exit)) r × (r ≤ at + namedMost) ⌝ }
+{
+    let row = text_names::TITLES + text_names::kind_of(entry);
+    let opened = put_opening(out, at, entry);
+    let end = text_names::put_word(out, opened, row);
+    text::put_byte(out, end, b' ')
+}
+
 fn put_entry(out: &mut [u8], at: usize, entry: u32, value: u32) -> usize
     requires { ⌜ (entry < entryCount) × (at + entryMost ≤ length (now out)) ⌝ }
     ensures { λ r. ⌜ Placed (now (out .entry)) at (entryText entry value) (now (out .exit)) r ⌝ }
 {
-    let row = text_names::TITLES + text_names::kind_of(entry);
     let byte = closing(entry);
-    let opened = put_opening(out, at, entry);
-    let named = text_names::put_word(out, opened, row);
-    let end = text::put_byte(out, named, b' ');
-    text::put_number_then(out, end, value, byte)
+    let named = put_named(out, at, entry);
+    let end = text_values::put_value(out, named, Kind::at(entry as usize), value);
+    text::put_byte(out, end, byte)
 }
 
 // Writes the text of any entries to the front of the lent bytes, and tells its length; the bytes past it stay.

@@ -1,5 +1,5 @@
 -- `text_phrases::put_entry_name`. The group's name, a blank, the kind's name.
-use Rattle.text_phrases.proofs.Laws.{placed-three}
+use Rattle.text.proofs.Laws.{placed-three}
 use borrow.Author.Needs.{needs}
 use native.Mathlib.Omega.{arith}
 use Rattle.text_phrases.proofs.put_entry_name.Statement.{statement}

@@ -1,6 +1,6 @@
 -- `text_phrases::put_name`. The word of a row that the table has, or nothing.
 use Rattle.text_names.proofs.Laws.{length-word}
-use Rattle.text_phrases.proofs.Laws.{placed-nothing}
+use Rattle.text.proofs.Laws.{placed-nothing}
 use Rattle.text_phrases.specs.Phrases.{nameIn}
 use borrow.Author.Needs.{needs}
 use borrow.Author.Tests.{lt-ltb, le-ltb}

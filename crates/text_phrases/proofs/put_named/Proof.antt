@@ -1,5 +1,5 @@
 -- `text_phrases::put_named`. The words stand just past the name.
-use Rattle.text_phrases.proofs.Laws.{placed-after}
+use Rattle.text.proofs.Laws.{placed-after}
 use borrow.Author.Needs.{needs}
 use native.Mathlib.Omega.{arith}
 use Rattle.text_phrases.proofs.put_named.Statement.{statement}

@@ -1,6 +1,6 @@
 -- `text_phrases::put_numbered`. The number stands just past the words.
 use Rattle.text.proofs.Laws.{length-decimal}
-use Rattle.text_phrases.proofs.Laws.{placed-after}
+use Rattle.text.proofs.Laws.{placed-after}
 use Rattle.text_phrases.specs.Phrases.{numbered}
 use borrow.Author.Needs.{needs}
 use native.Mathlib.Omega.{arith}

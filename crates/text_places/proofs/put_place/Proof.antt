@@ -1,5 +1,5 @@
 -- `text_places::put_place`. The line, the column, and what parts them from what follows.
-use Rattle.text_phrases.proofs.Laws.{placed-three}
+use Rattle.text.proofs.Laws.{placed-three}
 use Rattle.text_places.specs.Places.{placeText}
 use Rattle.text.specs.Text.{ascii}
 use borrow.Author.Needs.{needs}

@@ -1,5 +1,5 @@
 -- `text_refusals::put_file`. The words and the byte's place, and the end of the line.
-use Rattle.text_phrases.proofs.Laws.{placed-after}
+use Rattle.text.proofs.Laws.{placed-after}
 use Rattle.text_refusals.specs.Refusals.{fileText}
 use Rattle.text.specs.Text.{ascii}
 use borrow.Author.Needs.{needs}

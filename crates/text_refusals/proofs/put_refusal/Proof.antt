@@ -1,5 +1,5 @@
 -- `text_refusals::put_refusal`. The refusal's number, and what it means.
-use Rattle.text_phrases.proofs.Laws.{placed-three}
+use Rattle.text.proofs.Laws.{placed-three}
 use Rattle.text_refusals.specs.Refusals.{refusalText}
 use Rattle.text.specs.Text.{ascii}
 use borrow.Author.Needs.{needs}

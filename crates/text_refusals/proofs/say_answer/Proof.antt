@@ -1,5 +1,5 @@
 -- `text_refusals::say_answer`. Nothing, or the refusal.
-use Rattle.text_phrases.proofs.Laws.{placed-nothing}
+use Rattle.text.proofs.Laws.{placed-nothing}
 use borrow.Author.Needs.{needs}
 use Rattle.text_refusals.proofs.say_answer.Statement.{statement}
 use Rattle.text_refusals.proofs.say_answer.Tie as tie

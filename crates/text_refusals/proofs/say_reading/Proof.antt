@@ -1,5 +1,5 @@
 -- `text_refusals::say_reading`. Nothing, or the place and what is wrong there.
-use Rattle.text_phrases.proofs.Laws.{placed-nothing, placed-after}
+use Rattle.text.proofs.Laws.{placed-nothing, placed-after}
 use borrow.Author.Needs.{needs}
 use native.Mathlib.Omega.{arith}
 use Rattle.text_refusals.proofs.say_reading.Statement.{statement}

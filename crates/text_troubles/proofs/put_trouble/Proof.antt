@@ -9,10 +9,13 @@ pub put-trouble-spec : {M : Type 1} → statement M
 unfolding ascii
 put-trouble-spec =
     tie.close
-    (tie.spec (search needs) (search needs) (search needs) (search needs) (search needs) (search needs)
+    (tie.spec (search needs) (search needs) (search needs) (search needs) (search needs) (search needs) (search needs)
     (search needs) (search needs) (search needs) (search needs) (search needs) (search needs) (search needs)
     (search needs) (search needs) (search needs) (search needs) (search needs) (search needs) (search needs)
-    (search needs) (search needs) (λ c. (search trouble-placed, search needs)) (search needs) (λ c. (search trouble-placed, search needs))
-    (search needs) (λ c. (search trouble-placed, search needs)) (search needs) (λ c. (search trouble-placed, search needs)) (search needs)
-    (λ c. (search trouble-placed, search needs)) (search needs) (λ c. (search trouble-placed, search needs)) (search needs)
-    (λ c. (search trouble-placed, search needs)))
+    (search needs) (search needs) (search needs) (search needs) (search needs) (search needs) (search needs)
+    (λ c. (search trouble-placed, search needs)) (search needs) (λ c. (search trouble-placed, search needs))
+    (search needs) (λ c. (search trouble-placed, search needs)) (search needs)
+    (λ c. (search trouble-placed, search needs)) (search needs) (λ c. (search trouble-placed, search needs))
+    (search needs) (λ c. (search trouble-placed, search needs)) (search needs)
+    (λ c. (search trouble-placed, search needs)) (search needs) (λ c. (search trouble-placed, search needs))
+    (search needs) (λ c. (search trouble-placed, search needs)))

@@ -1,0 +1,11 @@
+-- How long the text of a time is at most: no public promise says it.
+use Prim.Native.Nat.{ℕ, _+_}
+use Rattle.text.specs.Text.{digitMost}
+
+-- a point and three digits
+abbrev pub fractionMost : ℕ
+fractionMost = 4
+
+-- the seconds, what stands past them, and the unit
+abbrev pub timeMost : ℕ
+timeMost = digitMost + fractionMost + 1
