@@ -1,6 +1,6 @@
 -- Each way to return is a case of the definition.
 use Rattle.text_words.specs.Words.{takenKind, wrong, stands}
-use Rattle.text_words.specs.declared.Trouble.the-variants.{Twice}
+use Rattle.text_values.specs.declared.Trouble.the-variants.{Twice}
 use denote.Ref.{now}
 use lib.ListN.{getD}
 use lib.Dec.{ltb}
