@@ -19,6 +19,10 @@ ghost use Rattle.sheet.specs.Working.{RightsAt, SmallPair, restAt};
 ghost use Rattle.sheet.specs.Fill.{fillAnswer, filled};
 use answers::Answer;
 use kinds::FreeRight;
+use layout::EB;
+use layout::NB;
+use layout::SB;
+use layout::WB;
 use line_stages::Lines;
 use sheet_pairs::Pair;
 use sheet_street::Street;
@@ -42,38 +46,10 @@ fn rights_at(entries: &[u32], along: Street, across: Street) -> Rights
     let nb = across.one;
     let sb = across.other;
     Rights {
-        eb: sheet_totals::right_of(
-            free_at(entries, layout::EB),
-            eb,
-            wb,
-            along.pair,
-            sb,
-            across.pair,
-        ),
-        wb: sheet_totals::right_of(
-            free_at(entries, layout::WB),
-            wb,
-            eb,
-            along.pair,
-            nb,
-            across.pair,
-        ),
-        nb: sheet_totals::right_of(
-            free_at(entries, layout::NB),
-            nb,
-            sb,
-            across.pair,
-            eb,
-            along.pair,
-        ),
-        sb: sheet_totals::right_of(
-            free_at(entries, layout::SB),
-            sb,
-            nb,
-            across.pair,
-            wb,
-            along.pair,
-        ),
+        eb: sheet_totals::right_of(free_at(entries, EB), eb, wb, along.pair, sb, across.pair),
+        wb: sheet_totals::right_of(free_at(entries, WB), wb, eb, along.pair, nb, across.pair),
+        nb: sheet_totals::right_of(free_at(entries, NB), nb, sb, across.pair, eb, along.pair),
+        sb: sheet_totals::right_of(free_at(entries, SB), sb, nb, across.pair, wb, along.pair),
     }
 }
 
@@ -162,13 +138,13 @@ pub fn write_fresh(entries: &[u32], sheet: &mut [u32])
     requires { ⌜ (judged (now entries) ≡ Accepted) × (length (now sheet) ≡ sheetCount) ⌝ }
     ensures { λ _. ⌜ now (sheet .exit) ≡ sheetOf (now (entries .entry)) ⌝ }
 {
-    let eb = sheet_street::lines_at(entries, layout::EB, layout::WB);
-    let wb = sheet_street::lines_at(entries, layout::WB, layout::EB);
-    let nb = sheet_street::lines_at(entries, layout::NB, layout::SB);
-    let sb = sheet_street::lines_at(entries, layout::SB, layout::NB);
+    let eb = sheet_street::lines_at(entries, EB, WB);
+    let wb = sheet_street::lines_at(entries, WB, EB);
+    let nb = sheet_street::lines_at(entries, NB, SB);
+    let sb = sheet_street::lines_at(entries, SB, NB);
     put_front(sheet, entries, eb, wb, nb, sb);
-    let along = sheet_street::street_at(entries, layout::EB, layout::WB, eb, wb);
-    let across = sheet_street::street_at(entries, layout::NB, layout::SB, nb, sb);
+    let along = sheet_street::street_at(entries, EB, WB, eb, wb);
+    let across = sheet_street::street_at(entries, NB, SB, nb, sb);
     put_streets(entries, sheet, along, across);
 }
 
