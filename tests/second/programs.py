@@ -21,6 +21,7 @@ import table
 BIN = os.path.abspath("target/bin")
 SAMPLES = "samples/table"
 NAMES = list(table.TITLES)
+MARK = b"\xef\xbb\xbf"  # a byte-order mark
 
 
 class Bench:
@@ -159,11 +160,17 @@ def usage(b):
     study = b.put("s.icus", study_of([junctions.K1]))
     for words, said in ((("EBT", "volumes", "1"), b"volumes: no entry has this name there\nusage: "),
                         (("EB", "volume", "1"), b"volume: no entry has this name there\nusage: "),
-                        (("EBT", "volume", "-1"), b"-1: a whole number is expected here\n"),
-                        (("EBT", "volume", ""), b": a whole number is expected here\n"),
-                        (("EBT", "volume", "0" * 5000), b": a whole number is expected here\n"),
+                        (("EBT", "volume", "-1"), b"-1: a whole number without a unit is expected here\n"),
+                        (("EBT", "volume", ""), b": a whole number without a unit is expected here\n"),
+                        (("EBT", "volume", "0" * 5000), b": a whole number without a unit is expected here\n"),
+                        (("EBT", "volume", "4s"), b"4s: a whole number without a unit is expected here\n"),
+                        (("junction", "cycle", "120s"), b"120s: a whole number without a unit is expected here\n"),
+                        (("EBT", "lost-time", "4"), b"4: a time is written with its unit, as 4s, 4.5s or 4000ms\n"),
+                        (("EB", "pedestrian-time", "16000"), b"16000: a time is written with its unit, as 4s, 4.5s or 4000ms\n"),
+                        (("EBT", "lost-time", "20.001s"), b"R3: EBT lost-time is outside 0s to 20s\n"),
                         (("EBT", "", "1"), b": no entry has this name there\nusage: "),
-                        (("EBT", "volume", "4294967296"), b"4294967296: a whole number is expected here\n")):
+                        (("EBT", "lost-time", "4294968s"), b"4294968s: this number is too large\n"),
+                        (("EBT", "volume", "4294967296"), b"4294967296: this number is too large\n")):
         out, got = b.run("icuamend", study, "1", *words)
         b.same("output", out, b"")
         b.same("said", got.startswith(said), True)
@@ -259,13 +266,20 @@ def damaged_texts(b):
         unread(b, damaged(b.rng, b.rng.choice(texts)))
     for data in (b"", b"\n", b"#", b"EBL", b"EBL lanes", b"EBL lanes ", b"lanes 1", b"EB lanes 1", b"EBL lanes 1 lanes 1",
                  b"junction cycle 29", b"junction cycle 4294967295", b"junction cycle 4294967296", b"EBL 1", b"ebl lanes 1",
-                 b"EBL\0 lanes 1", b"EBL lanes 1,", b"junctions cycle 60", b"pedestrian-times 1", b"\xef\xbb\xbfEBL lanes 1"):
+                 b"EBL\0 lanes 1", b"EBL lanes 1,", b"junctions cycle 60", b"pedestrian-times 1",
+                 b"EBL lost-time 4", b"EBL lost-time 4000", b"EBL lost-time 4.5s", b"EBL lost-time 4.5ms", b"EBL lost-time 4.1234s", b"EBL lost-time 20.001s",
+                 b"EBL lost-time 99999999999.5s", b"EB pedestrian-time 16", b"EBL volume 4s", b"junction cycle 120s", b"EBL lanes 99999999999",
+                 b"Stra\xc3\x9fe", b"x" * 24, b"x" * 25, b"\x1b[31mEBL", b"\"EBL\"", b"EBL lanes 1\n  lane 2", b"EBL\tlanes\xc2\xa01"):
         unread(b, data)
+        unread(b, MARK + data)
+        unread(b, MARK + MARK + data)
+        unread(b, data + b"\n" + MARK)
     for size in (1, 10, 1000, 65535):
         unread(b, bytes(b.rng.randrange(256) for _ in range(size)))
         unread(b, b" " * size)
     for size in (65536, 200000):
-        unread(b, b"# " + b"x" * 70 + b"\n" + b" " * size)
+        for front in (b"", MARK):
+            unread(b, front + b"# " + b"x" * 70 + b"\n" + b" " * size)
 
 
 def studies(b):

@@ -104,6 +104,16 @@ def brief_text(title, entries):
     return "".join(out)
 
 
+def unmarked(data):
+    """The text past a byte-order mark at its front; places in it are counted from there."""
+    return data[3:] if data[:3] == b"\xef\xbb\xbf" else data
+
+
+def quoted(word):
+    """A word in quotes: at most 24 of its bytes, and a question mark for what is no sign of ASCII."""
+    return '"%s%s"' % ("".join(chr(b) if 33 <= b <= 126 else "?" for b in word[:24]), ".." if len(word) > 24 else "")
+
+
 def words(data):
     """(place, word) of each word of the text."""
     place, n = 0, len(data)
@@ -145,7 +155,7 @@ def parse(data):
             if wanted in places:
                 raise Wrong(place, "this entry was written before")
         else:
-            raise Wrong(place, "no movement, approach or entry has this name")
+            raise Wrong(place, quoted(word) + ": no movement, approach or entry has this name")
     if wanted is not None:
         raise Wrong(len(data), "the text ends where a value is expected")
     return entries, places
@@ -167,8 +177,8 @@ def refusal_text(number, place):
 def read_text(data):
     """The entries of a text, or Wrong."""
     if len(data) > TEXT_MOST:
-        raise Wrong(TEXT_MOST, "a text has at most 65535 bytes")
-    entries, places = parse(data)
+        raise Wrong(TEXT_MOST - (len(data) - len(unmarked(data))), "a text has at most 65535 bytes")
+    entries, places = parse(unmarked(data))
     number, place = icu2003.judge(entries)
     if number:
         entry = {3: place, 4: 60 + 5 * place, 5: 5 * place + 1}[number]
@@ -182,7 +192,7 @@ def said_of(data):
         read_text(data)
     except Wrong as wrong:
         place, said = wrong.args
-        before = data[:place]
+        before = unmarked(data)[:place]
         return "line %d, column %d: %s\n" % (before.count(b"\n") + 1, place - (before.rfind(b"\n") + 1) + 1, said)
     return ""
 

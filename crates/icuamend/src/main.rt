@@ -3,6 +3,7 @@ use answers::Answer;
 use libc::STDERR_FILENO;
 use libc::STDOUT_FILENO;
 use program_files::Input;
+use text_values::Value;
 
 // The arguments, by number.
 const STUDY: usize = 1;
@@ -149,20 +150,22 @@ fn main() {
         return;
     }
     let entry = program_inputs::entry_in(NAME, ENTRY);
-    let value = program_inputs::number_in(VALUE);
     if entry == text_names::ENTRIES {
         program_inputs::complain(ENTRY, b"no entry has this name there\n");
         tell_use();
         return;
     }
-    if text_numbers::NOT_NUMBER <= value {
-        program_inputs::complain(VALUE, b"a whole number is expected here\n");
-        return;
+    let value = program_inputs::value_in(VALUE, entry);
+    match value {
+        Value::Is(number) => {
+            let site = program_inputs::site_in(SITE);
+            let change = Change {
+                site,
+                entry,
+                value: number,
+            };
+            run(change, NEW < count);
+        }
+        Value::Not(why) => program_inputs::refuse_value(VALUE, why),
     }
-    let change = Change {
-        site: program_inputs::site_in(SITE),
-        entry,
-        value: value as u32,
-    };
-    run(change, NEW < count);
 }

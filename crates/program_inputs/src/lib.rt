@@ -5,15 +5,18 @@ ghost use lib.ListN.{take};
 ghost use Rattle.program_inputs.specs.Inputs.{withSite};
 ghost use Rattle.program_inputs.specs.Working.{siteOf};
 use answers::Answer;
+use kinds::Kind;
 use libc::STDERR_FILENO;
 use program_files::Input;
 use text_reader::Reading;
+use text_values::Trouble;
+use text_values::Value;
 
 // One byte more than a text has at most, so that a longer one is seen to be too long; no study file is longer.
 pub const AREA_BYTES: usize = text_reader::TEXT_MOST + 1;
 
 // Past any site of a study: the largest number of 32 bits.
-const NO_SITE: u32 = (text_numbers::NOT_NUMBER - 1) as u32;
+const NO_SITE: u32 = (text_numbers::TOO_LARGE - 1) as u32;
 
 // Writes an argument, a colon and what is to say of it.
 pub fn complain(argument: usize, what: &[u8]) {
@@ -78,8 +81,25 @@ pub fn read_junction(argument: usize, entries: &mut [u32; layout::ENTRIES]) -> b
     read_area(argument, &area, size, entries)
 }
 
-// The number that an argument spells; text_numbers::NOT_NUMBER, if none.
-pub fn number_in(argument: usize) -> u64 {
+// What an argument is as the value of an entry.
+pub fn value_in(argument: usize, entry: u32) -> Value {
+    let mut word = io::buffer();
+    let size = os::arg(argument, &mut word);
+    text_values::value_of(Kind::at(entry as usize), &word[..size])
+}
+
+// Writes an argument, a colon and what is wrong with it as a value.
+pub fn refuse_value(argument: usize, why: Trouble) {
+    let mut word = io::buffer();
+    let mut said = [0u8; text_refusals::SAYING_BYTES];
+    let length = os::arg(argument, &mut word);
+    let size = text_refusals::say_trouble(why, &word[..length], &mut said);
+    complain(argument, b"");
+    put_said(&said, size);
+}
+
+// The number that an argument spells; text_numbers::TOO_LARGE or more, if none of 32 bits.
+fn number_in(argument: usize) -> u64 {
     let mut word = io::buffer();
     let size = os::arg(argument, &mut word);
     text_numbers::number_of(&word[..size])
@@ -101,7 +121,7 @@ fn site_of(number: u64) -> u32
     if number == 0 {
         return NO_SITE;
     }
-    if text_numbers::NOT_NUMBER <= number {
+    if text_numbers::TOO_LARGE <= number {
         return NO_SITE;
     }
     (number - 1) as u32

@@ -1,4 +1,4 @@
--- What is said of six refusals.
+-- What is said of seven refusals.
 use mathlib.Core.Path.{_≡_, refl}
 use Rattle.answers.specs.declared.Refusal.the-variants.{Range, Shared, NoLane}
 use Rattle.answers.specs.declared.Answer.the-variants.{Refused as No}
@@ -7,9 +7,11 @@ use Rattle.text_values.specs.Values.{valueText}
 use Rattle.layout.specs.Entries.{lostNo, buttonNo, cycleEntry, approachPlace, through, EB, NB}
 use Rattle.kinds.specs.Kinds.{kindAt}
 use Rattle.text_names.specs.Names.{wordTable, wordIn, classAt}
-use Rattle.text_values.specs.declared.Trouble.the-variants.{NotNumber}
+use Rattle.text_values.specs.declared.Trouble.the-variants.{Unknown, NotNumber}
 use Rattle.text_reader.specs.declared.Reading.the-variants.{Misread, Refused}
-use Rattle.text.specs.Text.{ascii, joined, digits, decimal}
+use Rattle.lists.specs.Lists.{table}
+use Rattle.text.specs.Text.{ascii, joined, digits, decimal, firstIn}
+use Rattle.text_quotes.specs.Quotes.{shown, restMark, quoted}
 use Rattle.text_phrases.specs.Phrases.{numbered, nameIn}
 use Rattle.text_places.specs.Places.{lineAt, columnAt, placeText}
 use Rattle.text_refusals.specs.Refusals.{limitsText, rangeText, whyText, refusalText, answerText, readingText}
@@ -33,6 +35,10 @@ noLane = refl
 misread : readingText (ascii "EBL lanes 2\nvolume x") (Misread NotNumber 19) ≡ ascii "line 2, column 8: a whole number without a unit is expected here\n"
 unfolding ascii digits decimal numbered lineAt columnAt placeText
 misread = refl
+
+unknown : readingText (ascii "EBL lane\x01 1") (Misread Unknown 4) ≡ ascii "line 1, column 5: \"lane?\": no movement, approach or entry has this name\n"
+unfolding ascii table firstIn shown restMark quoted digits decimal numbered lineAt columnAt placeText
+unknown = refl
 
 refused : readingText (ascii "junction cycle 29") (Refused Range cycleEntry 15) ≡ ascii "line 1, column 16: R3: junction cycle is outside 30 to 240\n"
 unfolding ascii joined digits decimal numbered lineAt columnAt placeText valueText kindAt classAt wordTable wordIn nameIn limitsText rangeText whyText refusalText

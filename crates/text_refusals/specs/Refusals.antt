@@ -15,6 +15,8 @@ use Rattle.text.specs.Text.{ascii}
 use Rattle.text_names.specs.Names.{wordCount, approaches}
 use Rattle.text_phrases.specs.Phrases.{numbered, nameIn, entryName}
 use Rattle.text_values.specs.Values.{valueText}
+use Rattle.text_scan.specs.Scanning.{unmarked}
+use Rattle.text_quotes.specs.Quotes.{wordAt}
 use Rattle.text_places.specs.Places.{placeText}
 use Rattle.text_troubles.specs.Troubles.{troubleText}
 use Rattle.text_reader.specs.declared.Reading.{Reading}
@@ -54,7 +56,11 @@ abbrev pub answerText : Answer → List ℕ
 answerText Accepted = []
 answerText (No why place) = refusalText why place
 
+-- of a text past its mark
+abbrev pub saidOf : List ℕ → Reading → List ℕ
+saidOf text Read = []
+saidOf text (Misread why place) = placeText text place ++ troubleText why (wordAt text place)
+saidOf text (Refused why at place) = placeText text place ++ refusalText why at
+
 abbrev pub readingText : List ℕ → Reading → List ℕ
-readingText text Read = []
-readingText text (Misread why place) = placeText text place ++ troubleText why
-readingText text (Refused why at place) = placeText text place ++ refusalText why at
+readingText text reading = saidOf (unmarked text) reading

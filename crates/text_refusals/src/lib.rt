@@ -3,13 +3,15 @@ ghost use Prim.Native.Nat.{_+_, _≤_};
 ghost use mathlib.Core.Path.{_≡_};
 ghost use lib.ListN.{length};
 ghost use Rattle.text.specs.Text.{Placed};
+ghost use Rattle.text_troubles.specs.Troubles.{troubleText};
 ghost use Rattle.text_refusals.specs.Refusals.{limitsText, rangeText, approachRow, fileText, whyText};
-ghost use Rattle.text_refusals.specs.Refusals.{refusalText, answerText, readingText};
+ghost use Rattle.text_refusals.specs.Refusals.{refusalText, answerText, saidOf, readingText};
 ghost use Rattle.text_refusals.specs.Working.{limitsMost, whyMost, refusalMost};
 use answers::Answer;
 use answers::Refusal;
 use kinds::Kind;
 use text_reader::Reading;
+use text_values::Trouble;
 
 // Room for anything that is said: a place, and a refusal or a trouble.
 pub const SAYING_BYTES: usize = 256;
@@ -101,19 +103,32 @@ pub fn say_answer(answer: Answer, out: &mut [u8; SAYING_BYTES]) -> usize
     }
 }
 
-// Writes what is wrong with a text and where, and tells how many bytes; nothing where it was read.
-pub fn say_reading(text: &[u8], reading: Reading, out: &mut [u8; SAYING_BYTES]) -> usize
-    ensures { λ r. ⌜ Placed (now (out .entry)) 0 (readingText (now (text .entry)) reading) (now (out .exit)) r ⌝ }
+// Writes what is wrong with a word, and tells how many bytes.
+pub fn say_trouble(why: Trouble, word: &[u8], out: &mut [u8; SAYING_BYTES]) -> usize
+    ensures { λ r. ⌜ Placed (now (out .entry)) 0 (troubleText why (now (word .entry))) (now (out .exit)) r ⌝ }
+{
+    text_troubles::put_trouble(out, 0, why, word)
+}
+
+fn put_reading(text: &[u8], reading: Reading, out: &mut [u8; SAYING_BYTES]) -> usize
+    ensures { λ r. ⌜ Placed (now (out .entry)) 0 (saidOf (now (text .entry)) reading) (now (out .exit)) r ⌝ }
 {
     match reading {
         Reading::Read => 0,
         Reading::Misread(why, byte) => {
             let at = text_places::put_place(out, text, byte);
-            text_troubles::put_trouble(out, at, why)
+            text_troubles::put_trouble(out, at, why, text_quotes::word_at(text, byte))
         }
         Reading::Refused(why, place, byte) => {
             let at = text_places::put_place(out, text, byte);
             put_refusal(out, at, why, place)
         }
     }
+}
+
+// Writes what is wrong with a text and where, and tells how many bytes; nothing where it was read.
+pub fn say_reading(text: &[u8], reading: Reading, out: &mut [u8; SAYING_BYTES]) -> usize
+    ensures { λ r. ⌜ Placed (now (out .entry)) 0 (readingText (now (text .entry)) reading) (now (out .exit)) r ⌝ }
+{
+    put_reading(text_scan::unmarked(text), reading, out)
 }

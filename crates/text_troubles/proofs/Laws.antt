@@ -6,6 +6,7 @@ use Rattle.text_values.specs.declared.Trouble.{Trouble}
 use Rattle.text.specs.Text.{Placed}
 use Rattle.text_troubles.specs.Troubles.{troubleText}
 
-pub trouble-placed : {list after : List ℕ} {at past : ℕ} {why case : Trouble} → why ≡ case → Placed list at (troubleText case) after past
-    → Placed list at (troubleText why) after past
-trouble-placed is p = rw is p
+pub trouble-placed : {list after : List ℕ} {at past : ℕ} {why case : Trouble} (word : List ℕ) → why ≡ case
+    → Placed list at (troubleText case word) after past
+    → Placed list at (troubleText why word) after past
+trouble-placed word is p = rw is p

@@ -1,6 +1,7 @@
 -- How long a sentence is at most: no public promise says it.
-use Prim.Native.Nat.{ℕ}
+use Prim.Native.Nat.{ℕ, _+_}
+use Rattle.text_quotes.specs.Working.{quotedMost}
 
--- that of a missing title has as many bytes
+-- that of an unknown word has the most: 47 bytes past the word
 abbrev pub troubleMost : ℕ
-troubleMost = 64
+troubleMost = quotedMost + 47

@@ -6,17 +6,25 @@ ghost use Rattle.text_troubles.specs.Troubles.{troubleText};
 ghost use Rattle.text_troubles.specs.Working.{troubleMost};
 use text_values::Trouble;
 
-// A sentence for each trouble.
-pub fn put_trouble(out: &mut [u8], at: usize, why: Trouble) -> usize
+fn put_unknown(out: &mut [u8], at: usize, word: &[u8]) -> usize
     requires { ⌜ at + troubleMost ≤ length (now out) ⌝ }
-    ensures { λ r. ⌜ Placed (now (out .entry)) at (troubleText why) (now (out .exit)) r × (r ≤ at + troubleMost) ⌝ }
+    ensures { λ r. ⌜ Placed (now (out .entry)) at (troubleText Trouble.Unknown (now (word .entry))) (now (out .exit)) r × (r ≤ at + troubleMost) ⌝ }
+{
+    let end = text_quotes::put_quoted(out, at, word);
+    text::put_bytes(
+        out,
+        end,
+        b": no movement, approach or entry has this name\n",
+    )
+}
+
+// A sentence for each trouble with a word.
+pub fn put_trouble(out: &mut [u8], at: usize, why: Trouble, word: &[u8]) -> usize
+    requires { ⌜ at + troubleMost ≤ length (now out) ⌝ }
+    ensures { λ r. ⌜ Placed (now (out .entry)) at (troubleText why (now (word .entry))) (now (out .exit)) r × (r ≤ at + troubleMost) ⌝ }
 {
     match why {
-        Trouble::Unknown => text::put_bytes(
-            out,
-            at,
-            b"no movement, approach or entry has this name\n",
-        ),
+        Trouble::Unknown => put_unknown(out, at, word),
         Trouble::NoTitle => text::put_bytes(
             out,
             at,

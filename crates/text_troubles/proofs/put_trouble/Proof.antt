@@ -12,7 +12,7 @@ put-trouble-spec =
     (tie.spec (search needs) (search needs) (search needs) (search needs) (search needs) (search needs) (search needs)
     (search needs) (search needs) (search needs) (search needs) (search needs) (search needs) (search needs)
     (search needs) (search needs) (search needs) (search needs) (search needs) (search needs) (search needs)
-    (search needs) (search needs) (search needs) (search needs) (search needs) (search needs) (search needs)
+    (search needs) (search needs) (search needs) (search needs) (search needs) (search needs)
     (λ c. (search trouble-placed, search needs)) (search needs) (λ c. (search trouble-placed, search needs))
     (search needs) (λ c. (search trouble-placed, search needs)) (search needs)
     (λ c. (search trouble-placed, search needs)) (search needs) (λ c. (search trouble-placed, search needs))
