@@ -27,10 +27,11 @@ CRATES = os.path.join(ROOT, "crates")
 PUBLIC = {
     "study": ["site", "entries_of"],
     "text_numbers": ["number_of"],
+    "text_values": ["value_of"],
     "text_reader": ["read"],
     "text_writer": ["write"],
     "page": ["print", "changes"],
-    "text_refusals": ["say_answer", "say_reading"],
+    "text_refusals": ["say_answer", "say_reading", "say_trouble"],
     "text_names": ["entry_named"],
     "program_files": ["front"],
     "program_inputs": ["put_site"],

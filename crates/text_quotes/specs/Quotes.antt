@@ -30,6 +30,10 @@ shown word = table (λ i. shownByte (getD word i 0)) (min (length word) shownMos
 unfoldable pub restMark : List ℕ → List ℕ
 restMark word = cond (ltb shownMost (length word)) (ascii "..") []
 
--- "lane", in quotes
+-- the byte of a quote
+abbrev pub quote : ℕ
+quote = 34
+
+-- a word in quotes
 unfoldable pub quoted : List ℕ → List ℕ
-quoted word = ascii "\"" ++ shown word ++ restMark word ++ ascii "\""
+quoted word = (quote ∷ []) ++ shown word ++ restMark word ++ (quote ∷ [])

@@ -1,6 +1,5 @@
 -- `text_quotes::put_quoted`. A quote, what is shown, what stands for the rest, and a quote.
 use Rattle.text_quotes.specs.Quotes.{quoted}
-use Rattle.text.specs.Text.{ascii}
 use Rattle.text.proofs.Laws.{placed-after, placed-three}
 use native.Mathlib.Omega.{arith}
 use borrow.Author.Needs.{needs}
@@ -8,7 +7,7 @@ use Rattle.text_quotes.proofs.put_quoted.Statement.{statement}
 use Rattle.text_quotes.proofs.put_quoted.Tie as tie
 
 returns : tie.Need-returns
-unfolding quoted ascii
+unfolding quoted
 returns c =
     let last = c .before .before in
     let rest = last .before .before .before .before in
