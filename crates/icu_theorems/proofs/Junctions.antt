@@ -3,11 +3,11 @@ use mathlib.Core.Path.{_≡_, refl}
 use mathlib.Core.List.{map, length, replicate}
 use Rattle.answers.specs.Answers.{inTurn}
 use Rattle.answers.specs.declared.Answer.the-variants.{Accepted}
-use Rattle.kinds.specs.Kinds.{inRange, kindAt}
+use Rattle.kinds.specs.Kinds.{kindAt}
 use Rattle.entries.specs.Layout.{movementEntry, approachEntry}
 use Rattle.entries.specs.Judging.{sizeAnswer, outside, badlyShared, otherLanes, unserved, judged}
 use Rattle.icu_theorems.specs.Outcomes.{toCompare}
 
 pub acceptable : map judged toCompare ≡ replicate (length toCompare) Accepted
-unfolding inTurn inRange kindAt movementEntry approachEntry sizeAnswer outside badlyShared otherLanes unserved judged
+unfolding inTurn kindAt movementEntry approachEntry sizeAnswer outside badlyShared otherLanes unserved judged
 acceptable = refl

@@ -89,10 +89,7 @@ pub fn read(text: &[u8], entries: &mut [u32; ENTRIES]) -> Reading
     ensures { λ r. ⌜ now (entries .exit) ≡ keptUnlessRead (reading (now (text .entry))) (parsed (now (text .entry)) .entries) (now (entries .entry)) ⌝ }
 {
     if TEXT_MOST < text.len() {
-        return Reading::Misread(
-            Trouble::TooLong,
-            TEXT_MOST - text_scan::mark_size(text),
-        );
+        return Reading::Misread(Trouble::TooLong, TEXT_MOST - text_scan::mark_size(text));
     }
     read_short(text, entries)
 }

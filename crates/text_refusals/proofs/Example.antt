@@ -1,5 +1,6 @@
--- What is said of seven refusals.
+-- What is said of some refusals.
 use mathlib.Core.Path.{_≡_, refl}
+use mathlib.Core.List.{_++_}
 use Rattle.answers.specs.declared.Refusal.the-variants.{Range, Shared, NoLane}
 use Rattle.answers.specs.declared.Answer.the-variants.{Refused as No}
 use Rattle.text_times.specs.Times.{decimals, fractionText, timeText}
@@ -36,10 +37,14 @@ misread : readingText (ascii "EBL lanes 2\nvolume x") (Misread NotNumber 19) ≡
 unfolding ascii digits decimal numbered lineAt columnAt placeText
 misread = refl
 
-unknown : readingText (ascii "EBL lane\x01 1") (Misread Unknown 4) ≡ ascii "line 1, column 5: \"lane?\": no movement, approach or entry has this name\n"
+unknown : readingText (ascii "EBL lane\u{1} 1") (Misread Unknown 4) ≡ ascii "line 1, column 5: \"lane?\": no movement, approach or entry has this name\n"
 unfolding ascii table firstIn shown restMark quoted digits decimal numbered lineAt columnAt placeText
 unknown = refl
 
-refused : readingText (ascii "junction cycle 29") (Refused Range cycleEntry 15) ≡ ascii "line 1, column 16: R3: junction cycle is outside 30 to 240\n"
-unfolding ascii joined digits decimal numbered lineAt columnAt placeText valueText kindAt classAt wordTable wordIn nameIn limitsText rangeText whyText refusalText
+cycle : answerText (No Range cycleEntry) ≡ ascii "R3: junction cycle is outside 30 to 240\n"
+unfolding ascii joined digits decimal numbered valueText kindAt classAt wordTable wordIn nameIn limitsText rangeText whyText refusalText
+cycle = refl
+
+refused : readingText (ascii "junction cycle 29") (Refused Range cycleEntry 15) ≡ ascii "line 1, column 16: " ++ answerText (No Range cycleEntry)
+unfolding ascii digits decimal numbered lineAt columnAt placeText
 refused = refl

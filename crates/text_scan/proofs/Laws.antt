@@ -10,7 +10,7 @@ use native.Mathlib.Decide.{decLt}
 use native.Mathlib.Omega.{arith}
 use Rattle.text_words.specs.Words.{state}
 use Rattle.text_words.specs.declared.Reader.{Reader}
-use Rattle.text_scan.specs.Scanning.{Scan, hash, endsWord, wordTaken, next, scanned, ended, lastTaken, wordsParsed, isMarked, markSize}
+use Rattle.text_scan.specs.Scanning.{Scan, hash, endsWord, wordTaken, next, scanned, ended, lastTaken, wordsParsed, markBytes, isMarked, markSize}
 
 -- one byte more of a text
 pub scan-more : (text : List ℕ) (n : ℕ) {one two : Scan} → one ≡ scanned text n → two ≡ next text n one → two ≡ scanned text (n + 1)
@@ -46,9 +46,9 @@ within-text text i byte is some = by (decLt i (length text))
     by (yes h) = h
     by (no h) = absurd (omega (arith, List·getD-eq-default text 0 {n = i} (omega arith), is, some))
 
-pub mark-few : (text : List ℕ) → markSize text ≤ 3
+pub mark-few : (text : List ℕ) → markSize text ≤ markBytes
 mark-few text = by (isMarked text)
   where
-    by : (b : Bool) → cond b 3 0 ≤ 3
+    by : (b : Bool) → cond b markBytes 0 ≤ markBytes
     by true = omega arith
     by false = omega arith

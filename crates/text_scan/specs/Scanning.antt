@@ -75,12 +75,15 @@ lastTaken text = wordTaken text (length text) (scanned text (length text))
 unfoldable pub wordsParsed : List ℕ → State
 wordsParsed text = state (ended (length text) (lastTaken text .reader)) (lastTaken text .entries) (lastTaken text .places)
 
--- a byte-order mark has the bytes EF BB BF
+-- a byte-order mark has the three bytes EF BB BF
+abbrev pub markBytes : ℕ
+markBytes = 3
+
 abbrev pub isMarked : List ℕ → Bool
 isMarked text = eqb (getD text 0 0) 239 && (eqb (getD text 1 0) 187 && eqb (getD text 2 0) 191)
 
 abbrev pub markSize : List ℕ → ℕ
-markSize text = cond (isMarked text) 3 0
+markSize text = cond (isMarked text) markBytes 0
 
 -- the text past its mark
 abbrev pub unmarked : List ℕ → List ℕ

@@ -13,6 +13,9 @@ use text_values::Trouble;
 use text_words::Found;
 use text_words::Reader;
 
+// A byte-order mark has the three bytes EF BB BF.
+const MARK_BYTES: usize = 3;
+
 // The reader, the place where a word begins that is not taken yet, and whether a comment goes on.
 struct Cursor {
     reader: Reader,
@@ -127,7 +130,7 @@ pub fn mark_size(text: &[u8]) -> usize
     if byte_at(text, 2) != b'\xBF' {
         return 0;
     }
-    3
+    MARK_BYTES
 }
 
 // The part of a text past its byte-order mark: all of it, if it has none.

@@ -1,3 +1,4 @@
+-- `text_quotes::word_at`. Nothing past the end, else the first word from the place on.
 use Prim.Native.Nat.{_-_}
 use Rattle.text.specs.Text.{firstIn}
 use lib.ListN.{length, drop, length-drop, drop-of-length-le}

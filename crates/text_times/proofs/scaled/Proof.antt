@@ -1,3 +1,4 @@
+-- `text_times::scaled`. Each arm is a case of the definition; the last is none of one, two and three digits.
 use Rattle.text_times.specs.Times.{scaled}
 use mathlib.Core.Path.{_≡_}
 use borrow.Author.Tests.{ne-eqb}

@@ -1,3 +1,4 @@
+-- `text_values::put_value`. A time, or a number in decimal.
 use Rattle.text_values.specs.Values.{valueText}
 use Rattle.text.proofs.Laws.{length-decimal}
 use native.Mathlib.Omega.{arith}

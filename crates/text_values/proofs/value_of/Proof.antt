@@ -1,3 +1,4 @@
+-- `text_values::value_of`. A time, or a number.
 use Rattle.text_values.specs.Values.{valueOf}
 use borrow.Author.Needs.{needs}
 use Rattle.text_values.proofs.value_of.Statement.{statement}
