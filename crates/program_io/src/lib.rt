@@ -6,6 +6,7 @@ ghost use Rattle.program_outcome.specs.Outcome.{wordMost};
 ghost use Rattle.program_io.specs.Input.{Within};
 use libc::STDERR_FILENO;
 use program_outcome::Input;
+use program_outcome::Remark;
 use program_outcome::SAID_BYTES;
 use program_outcome::WORD_BYTES;
 
@@ -97,4 +98,17 @@ pub fn put_out(file: i32, area: &[u8], size: usize) -> bool {
 
 pub fn say(said: &[u8; SAID_BYTES], size: usize) {
     put_out(STDERR_FILENO, said, size);
+}
+
+// Writes the front of an area to the file of that name, if there is something for it, and says so where it cannot.
+pub fn write_out(name: &[u8], area: &[u8], size: usize) {
+    if size == 0 {
+        return;
+    }
+    if write_named(name, program_outcome::front(area, size)) {
+        return;
+    }
+    let mut said = [0u8; SAID_BYTES];
+    let says = program_outcome::say(name, Remark::Unwritten, &mut said);
+    say(&said, says);
 }
