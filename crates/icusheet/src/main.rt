@@ -1,77 +1,39 @@
-// Prints the worksheet of a junction: of its text, or of a site of a study file.
-use answers::Answer;
-use libc::STDERR_FILENO;
+// Prints the worksheet of a junction: of its text, or of a site of a study file. What is printed and said is the one call's
+// to promise; the rest is input and output.
 use libc::STDOUT_FILENO;
-use program_files::Input;
+use program_outcome::AREA_BYTES;
+use program_outcome::Call;
+use program_outcome::Input;
 
-// The arguments: a text or a study file, and a site of the study.
-const INPUT: usize = 1;
+// Room for a file's name and a site.
+const WORDS_BYTES: usize = 2 * program_io::WORD_ROOM;
 
-const SITE: usize = 2;
-
-fn tell_use() {
-    io::write_all(
-        STDERR_FILENO,
-        b"usage: icusheet TEXT         prints the worksheet of the junction in a text\n",
-    );
-    io::write_all(
-        STDERR_FILENO,
-        b"       icusheet STUDY SITE   prints that of a site of a study file, sites from 1\n",
-    );
-}
-
-fn print_text(text: &[u8; page::SHEET_BYTES]) {
-    io::write_all(STDOUT_FILENO, text);
-}
-
-// Prints the sheet that is filled from these entries, or tells why they are refused.
-fn print_sheet(entries: &[u32]) {
-    let mut cells = [0u32; layout::CELLS];
-    let answer = sheet::fill(entries, &mut cells);
-    let Answer::Accepted = answer else {
-        program_inputs::refuse(answer);
-        return;
-    };
-    let mut text = [0u8; page::SHEET_BYTES];
-    page::print(&cells, &mut text);
-    print_text(&text);
-}
-
-fn print_junction(entries: &[u32; layout::ENTRIES]) {
-    print_sheet(entries);
-}
-
-fn print_site(file: &[u8]) {
-    let mut entries = [0u32; layout::ENTRIES];
-    if program_inputs::read_site(file, SITE, &mut entries) {
-        print_junction(&entries);
+// Reads the file that the first word names, if there are as many arguments as there should be.
+fn read(count: usize, words: &[u8], area: &mut [u8; AREA_BYTES]) -> Input {
+    if program_sheet::takes(count) {
+        return program_io::read_named(program_words::word(words, 0), area);
     }
+    Input::Failed
 }
 
-fn print_from(area: &[u8; program_inputs::AREA_BYTES], size: usize) {
-    print_site(program_files::front(area, size));
+fn print(printed: &[u8; program_sheet::PRINTED_BYTES], size: usize) {
+    program_io::put_out(STDOUT_FILENO, printed, size);
 }
 
-fn of_text() {
-    let mut entries = [0u32; layout::ENTRIES];
-    if program_inputs::read_junction(INPUT, &mut entries) {
-        print_junction(&entries);
-    }
-}
-
-fn of_study() {
-    let mut area = [0u8; program_inputs::AREA_BYTES];
-    let input = program_inputs::read_file(INPUT, &mut area);
-    let Input::Read(size) = input else {
-        return;
-    };
-    print_from(&area, size);
+fn run(words: &[u8]) {
+    let mut area = [0u8; AREA_BYTES];
+    let mut printed = [0u8; program_sheet::PRINTED_BYTES];
+    let mut said = [0u8; program_outcome::SAID_BYTES];
+    let arguments = os::arg_count();
+    let input = read(arguments, words, &mut area);
+    let call = Call { arguments, input };
+    let lengths = program_sheet::run(call, words, &area, &mut printed, &mut said);
+    print(&printed, lengths.prints);
+    program_io::say(&said, lengths.says);
 }
 
 fn main() {
-    match os::arg_count() {
-        2 => of_text(),
-        3 => of_study(),
-        _ => tell_use(),
-    }
+    let mut words = [0u8; WORDS_BYTES];
+    let size = program_io::take_words(&mut words);
+    run(program_outcome::front(&words, size));
 }

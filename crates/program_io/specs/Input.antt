@@ -1,0 +1,9 @@
+-- Working definition: how much reading can have come to.
+use Prim.Native.Nat.{ℕ, _≤_}
+use Rattle.program_outcome.specs.declared.Input.{Input}
+use Rattle.program_outcome.specs.declared.Input.the-variants.{Read, Failed}
+
+-- what was read lies within an area of this size
+abbrev pub Within : Input → ℕ → Type 0
+Within (Read count) size = count ≤ size
+Within Failed size = Unit {0}

@@ -1,0 +1,10 @@
+-- How long a sentence and what stands before it are at most: no public promise says it.
+use Prim.Native.Nat.{ℕ, _+_}
+use Rattle.program_outcome.specs.Outcome.{wordMost}
+
+-- an argument and ": "
+abbrev pub openingMost : ℕ
+openingMost = wordMost + 2
+
+abbrev pub remarkMost : ℕ
+remarkMost = 64

@@ -1,0 +1,93 @@
+// What one run of a program gives, in lent areas; and what every program says of a file.
+ghost use mathlib.Core.Path.{_≡_};
+ghost use Prim.Native.Nat.{_+_, _≤_};
+ghost use lib.ListN.{length, take};
+ghost use Rattle.text.specs.Text.{Placed};
+ghost use Rattle.program_outcome.specs.Outcome.{opening, named, remarkText, remarked};
+ghost use Rattle.program_outcome.specs.Working.{openingMost, remarkMost};
+
+// What reading a file into an area came to: how many bytes were read.
+pub enum Input {
+    Read(usize),
+    Failed,
+}
+
+// What is said of an argument.
+pub enum Remark {
+    Unread,
+    Unwritten,
+    NoSite,
+    NoEntry,
+    NotNumber,
+}
+
+// How a program was called: how many arguments it has, its own name among them, and what reading its file came to.
+pub struct Call {
+    pub arguments: usize,
+    pub input: Input,
+}
+
+// How many bytes are to be printed, to be written to a file, and to be said on standard error.
+pub struct Lengths {
+    pub prints: usize,
+    pub writes: usize,
+    pub says: usize,
+}
+
+// The most bytes of an argument.
+pub const WORD_BYTES: usize = 4_096;
+
+// One byte more than a text has at most, so that a longer one is seen to be too long; no study file is longer.
+pub const AREA_BYTES: usize = 65_536;
+
+// Room for an argument, and as much for what is said of it.
+pub const SAID_BYTES: usize = 2 * WORD_BYTES;
+
+// The front of the bytes; all of them, where they are fewer.
+pub fn front(bytes: &[u8], size: usize) -> &[u8]
+    ensures { λ r. ⌜ (now r ≡ take size (now (bytes .entry))) × (length (now r) ≤ size) ⌝ }
+{
+    if size < bytes.len() {
+        return &bytes[..size];
+    }
+    bytes
+}
+
+// Puts an argument and a colon, before what is said of it.
+fn put_opening(out: &mut [u8], word: &[u8]) -> usize
+    requires { ⌜ openingMost ≤ length (now out) ⌝ }
+    ensures { λ r. ⌜ Placed (now (out .entry)) 0 (opening (now (word .entry))) (now (out .exit)) r × (r ≤ openingMost) ⌝ }
+{
+    let shown = text::put_bytes(out, 0, front(word, WORD_BYTES));
+    text::put_bytes(out, shown, b": ")
+}
+
+// Puts an argument, a colon and what is to say of it.
+pub fn put_named(out: &mut [u8], word: &[u8], what: &[u8]) -> usize
+    requires { ⌜ openingMost + length (now what) ≤ length (now out) ⌝ }
+    ensures { λ r. ⌜ Placed (now (out .entry)) 0 (named (now (word .entry)) (now (what .entry))) (now (out .exit)) r ⌝ }
+{
+    let at = put_opening(out, word);
+    text::put_bytes(out, at, what)
+}
+
+fn put_remark(out: &mut [u8], at: usize, remark: Remark) -> usize
+    requires { ⌜ at + remarkMost ≤ length (now out) ⌝ }
+    ensures { λ r. ⌜ Placed (now (out .entry)) at (remarkText remark) (now (out .exit)) r × (r ≤ at + remarkMost) ⌝ }
+{
+    match remark {
+        Remark::Unread => text::put_bytes(out, at, b"cannot be read\n"),
+        Remark::Unwritten => text::put_bytes(out, at, b"cannot be written\n"),
+        Remark::NoSite => text::put_bytes(out, at, b"the study has no such site\n"),
+        Remark::NoEntry => text::put_bytes(out, at, b"no entry has this name there\n"),
+        Remark::NotNumber => text::put_bytes(out, at, b"a whole number is expected here\n"),
+    }
+}
+
+// Says one of the sentences of an argument.
+pub fn say(word: &[u8], remark: Remark, said: &mut [u8; SAID_BYTES]) -> usize
+    ensures { λ r. ⌜ Placed (now (said .entry)) 0 (remarked (now (word .entry)) remark) (now (said .exit)) r ⌝ }
+{
+    let at = put_opening(said, word);
+    put_remark(said, at, remark)
+}
