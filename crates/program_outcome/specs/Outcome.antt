@@ -1,8 +1,10 @@
 -- What one run of a program gives: three texts, functions of the bytes of its arguments and of the files that it read.
 use Prim.Native.Nat.{ℕ}
 use mathlib.Core.Path.{_≡_}
+use mathlib.Core.Bool.{Bool, _||_}
 use mathlib.Core.List.{List, [], _++_}
 use lib.ListN.{length, take}
+use lib.Dec.{eqb}
 use Rattle.text.specs.Text.{ascii, Placed}
 use Rattle.program_outcome.specs.declared.Input.{Input}
 use Rattle.program_outcome.specs.declared.Input.the-variants.{Read, Failed}
@@ -24,6 +26,10 @@ writing bytes = record { prints = []; writes = bytes; says = [] }
 
 abbrev pub saying : List ℕ → Outcome
 saying text = record { prints = []; writes = []; says = text }
+
+-- a number of arguments that is one of two
+abbrev pub isEither : ℕ → ℕ → ℕ → Bool
+isEither number one other = eqb number one || eqb number other
 
 -- the bytes of an argument that are shown: all, since none that is longer is taken
 abbrev pub wordMost : ℕ

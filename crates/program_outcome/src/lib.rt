@@ -3,8 +3,8 @@ ghost use mathlib.Core.Path.{_≡_};
 ghost use Prim.Native.Nat.{_+_, _≤_};
 ghost use lib.ListN.{length, take};
 ghost use Rattle.text.specs.Text.{Placed};
-ghost use Rattle.program_outcome.specs.Outcome.{opening, named, remarkText, remarked};
-ghost use Rattle.program_outcome.specs.Working.{openingMost, remarkMost};
+ghost use Rattle.program_outcome.specs.Outcome.{isEither, opening, named, remarkText, remarked};
+ghost use Rattle.program_outcome.specs.Working.{onlySaid, openingMost, remarkMost};
 
 // What reading a file into an area came to: how many bytes were read.
 pub enum Input {
@@ -51,6 +51,27 @@ pub fn front(bytes: &[u8], size: usize) -> &[u8]
         return &bytes[..size];
     }
     bytes
+}
+
+// The lengths where something is said and nothing else is given.
+pub fn only_said(says: usize) -> Lengths
+    ensures { λ r. ⌜ r ≡ onlySaid says ⌝ }
+{
+    Lengths {
+        prints: 0,
+        writes: 0,
+        says,
+    }
+}
+
+// Whether a number is one of two.
+pub fn is_either(number: usize, one: usize, other: usize) -> bool
+    ensures { λ r. ⌜ r ≡ isEither number one other ⌝ }
+{
+    if number == one {
+        return true;
+    }
+    number == other
 }
 
 // Puts an argument and a colon, before what is said of it.
