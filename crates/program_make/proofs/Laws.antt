@@ -22,16 +22,26 @@ module _ (entries : List ℕ) (sites : ℕ) (few : sites ≤ siteLimit) (whole :
   written : (room : ℕ) → fileBytes siteLimit ≤ room → writeAnswer entries room ≡ Accepted
   written room enough =
       let even : length entries % entryCount ≡ 0 = rw whole (omega arith) in
-      simp (eq-eqb (length entries % entryCount) 0 even, le-ltb siteLimit (sitesIn entries) (rw as-many few),
-      le-ltb room (fileBytes (sitesIn entries)) (rw as-many (omega arith)))
+      simp (
+        eq-eqb (length entries % entryCount) 0 even,
+        le-ltb siteLimit (sitesIn entries) (rw as-many few),
+        le-ltb room (fileBytes (sitesIn entries)) (rw as-many (omega arith)),
+      )
 
   file-long : length (fileOf entries) ≡ fileBytes sites
   unfolding fileIn
   file-long =
       let k = sitesIn entries in
       let numbers = (k ∷ []) ++ offsets icus k ++ entries in
-      rw (length-append (icus .opening) _, length-packed numbers, length-append ((k ∷ []) ++ offsets icus k) entries,
-      length-append (k ∷ []) (offsets icus k), length-table (blockPlace icus k) k, as-many, whole)
+      rw (
+        length-append (icus .opening) _,
+        length-packed numbers,
+        length-append ((k ∷ []) ++ offsets icus k) entries,
+        length-append (k ∷ []) (offsets icus k),
+        length-table (blockPlace icus k) k,
+        as-many,
+        whole,
+      )
       (omega arith)
 
   pub file-placed : {written′ list : List ℕ} {size : ℕ} → fileBytes siteLimit ≤ length list

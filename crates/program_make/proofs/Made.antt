@@ -80,9 +80,10 @@ one-more all entries e sites long room so-far =
     let at = entryCount * sites in
     let front : length (take at all) ≡ at = length-take-le at all (omega arith) in
     let both : length (take at all ++ e) ≡ entryCount * (sites + 1) = omega (arith, length-append (take at all) e) in
-    let fits = le-leb (at + length e) (length all) (omega arith) in
-    (rw fits (take-at (take at all ++ e) (drop (at + length e) all) (entryCount * (sites + 1)) both ∙ rw so-far),
-    rw fits (length-over all at e (omega arith)))
+    let fits = le-leb (at + length e) (length all) (omega arith) in (
+      rw fits (take-at (take at all ++ e) (drop (at + length e) all) (entryCount * (sites + 1)) both ∙ rw so-far),
+      rw fits (length-over all at e (omega arith)),
+    )
 
 -- once something is said, all stays
 stays : (texts : List Typed) (m : Making) → isNothing (m .says) ≡ false → steps m texts ≡ m

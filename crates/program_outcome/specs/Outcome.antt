@@ -9,7 +9,7 @@ use Rattle.text.specs.Text.{ascii, Placed}
 use Rattle.program_outcome.specs.declared.Input.{Input}
 use Rattle.program_outcome.specs.declared.Input.the-variants.{Read, Failed}
 use Rattle.program_outcome.specs.declared.Remark.{Remark}
-use Rattle.program_outcome.specs.declared.Remark.the-variants.{Unread, Unwritten, NoSite, NoEntry, NotNumber}
+use Rattle.program_outcome.specs.declared.Remark.the-variants.{Unread, Unwritten, NoSite, NoEntry, NotNumber, NoInput, NoOutput}
 use Rattle.program_outcome.specs.declared.Lengths.{Lengths}
 
 -- what goes to standard output, to a file, and to standard error; a file is written where there is something for it
@@ -42,13 +42,15 @@ opening word = take wordMost word ++ ascii ": "
 unfoldable pub named : List ℕ → List ℕ → List ℕ
 named word what = opening word ++ what
 
--- a row for each sentence that is said of an argument
+-- a row for each sentence that is said of an argument, or of the program itself
 unfoldable pub remarkText : Remark → List ℕ
 remarkText Unread = ascii "cannot be read\n"
 remarkText Unwritten = ascii "cannot be written\n"
 remarkText NoSite = ascii "the study has no such site\n"
 remarkText NoEntry = ascii "no entry has this name there\n"
 remarkText NotNumber = ascii "a whole number is expected here\n"
+remarkText NoInput = ascii "standard input cannot be read\n"
+remarkText NoOutput = ascii "standard output cannot be written\n"
 
 abbrev pub remarked : List ℕ → Remark → List ℕ
 remarked word remark = named word (remarkText remark)

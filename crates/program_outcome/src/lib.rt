@@ -12,13 +12,15 @@ pub enum Input {
     Failed,
 }
 
-// What is said of an argument.
+// What is said of an argument, or of the program itself.
 pub enum Remark {
     Unread,
     Unwritten,
     NoSite,
     NoEntry,
     NotNumber,
+    NoInput,
+    NoOutput,
 }
 
 // How a program was called: how many arguments it has, its own name among them, and what reading its file came to.
@@ -102,6 +104,8 @@ fn put_remark(out: &mut [u8], at: usize, remark: Remark) -> usize
         Remark::NoSite => text::put_bytes(out, at, b"the study has no such site\n"),
         Remark::NoEntry => text::put_bytes(out, at, b"no entry has this name there\n"),
         Remark::NotNumber => text::put_bytes(out, at, b"a whole number is expected here\n"),
+        Remark::NoInput => text::put_bytes(out, at, b"standard input cannot be read\n"),
+        Remark::NoOutput => text::put_bytes(out, at, b"standard output cannot be written\n"),
     }
 }
 
