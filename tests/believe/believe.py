@@ -7,7 +7,8 @@ A public call is a `pub fn` of the crate icu, or one of those that the programs 
 From the names in its `ensures` the definitions in specs/ are followed, through each file's `use` lines, as far as they go; the
 structs and enums that the code declares count where a definition names them. Blank lines and comments are not counted.
 
-The theorem file speaks of some definitions more (runs of amendments, K1 to K10, what fair means): those are counted by themselves.
+The theorem files speak of some definitions more (runs of amendments, K1 to K10, what fair means, texts one after the other): those
+are counted by themselves.
 All others are working definitions and stand in files of their own: specs/Working.antt, or a file whose first line says so.
 
 The layout is exempt: it names every cell, also those that only proofs and programs ask for.
@@ -23,7 +24,7 @@ import sys
 ROOT = os.path.normpath(os.path.join(os.path.dirname(os.path.abspath(__file__)), "..", ".."))
 CRATES = os.path.join(ROOT, "crates")
 
-# the calls beside those of icu that the programs make their texts and files with
+# the calls beside those of icu that the programs make, and that they make their texts and files with
 PUBLIC = {
     "study": ["site", "entries_of"],
     "text_numbers": ["number_of"],
@@ -33,8 +34,13 @@ PUBLIC = {
     "page": ["print", "changes"],
     "text_refusals": ["say_answer", "say_reading", "say_trouble"],
     "text_names": ["entry_named"],
-    "program_files": ["front"],
-    "program_inputs": ["put_site"],
+    "program_outcome": ["front", "say"],
+    "program_words": ["word"],
+    "program_sheet": ["takes", "run"],
+    "program_amend": ["takes", "run"],
+    "program_study": ["job_of", "texts_in", "say_job", "show"],
+    "program_make": ["add", "make"],
+    "program_list": ["run", "say_unprinted"],
 }
 
 NAME = r"[^\s(){}\[\],;.⌜⌝⟦⟧λ∷≡×→≤<:=+*/%-][^\s(){}\[\],;.⌜⌝⟦⟧λ∷≡×→:=+*/%]*"
@@ -196,12 +202,13 @@ def contracts(crate, wanted):
 
 
 def theorems(table):
-    """What the statements in the theorem file name."""
-    path = os.path.join(CRATES, "icu_theorems", "proofs", "Theorems.antt")
-    text = open(path, encoding="utf-8").read()
-    known = uses(text, "icu_theorems")
-    stated = "\n".join(re.findall(r"(?m)^ *(?:abbrev )?pub .*(?:\n    .*)*", text))
-    start = [known[n] for n in names_in(stated) if n in known]
+    """What the statements in the theorem files name."""
+    start = []
+    for crate, file in (("icu_theorems", "Theorems.antt"), ("program_make", "Made.antt")):
+        text = open(os.path.join(CRATES, crate, "proofs", file), encoding="utf-8").read()
+        known = uses(text, crate)
+        stated = "\n".join(re.findall(r"(?m)^ *(?:abbrev )?pub .*(?:\n    .*)*", text))
+        start += [known[n] for n in names_in(stated) if n in known]
     # a theorem may be stated by a record of the laws that prove it
     for crate in ("line_bounds", "sheet", "study_theorems", "page_form"):
         folder = os.path.join(CRATES, crate, "proofs")

@@ -1,35 +1,29 @@
-// Lists the study file on standard input to standard output. What a call of the system reads or writes, no promise can
-// say; what is written in between is `study_listing::list`'s to promise.
-use libc::STDERR_FILENO;
+// Lists the study file on standard input to standard output. What is printed and said is the one call's to promise; the rest is
+// input and output.
 use libc::STDIN_FILENO;
 use libc::STDOUT_FILENO;
-use program_files::Input;
+use program_list::PRINTED_BYTES;
+use program_outcome::AREA_BYTES;
+use program_outcome::SAID_BYTES;
 
-// Writes the listing of these bytes.
-fn write_listing(file: &[u8]) {
-    let mut text = [0u8; study_listing::AREA_BYTES];
-    let mut written: u32 = 0;
-    study_listing::list(file, &mut text, &mut written);
-    let is_written = io::write_all(STDOUT_FILENO, program_files::front(&text, written as usize));
-    if !is_written {
-        io::write_all(
-            STDERR_FILENO,
-            b"iculist: standard output cannot be written\n",
-        );
-    }
+fn print(printed: &[u8; PRINTED_BYTES], size: usize) -> bool {
+    program_io::put_out(STDOUT_FILENO, printed, size)
 }
 
-// What does not fit the area is not needed: its bytes decide any input.
-fn run() {
-    let mut area = io::large_buffer();
-    let input = program_files::read_open(STDIN_FILENO, &mut area);
-    let Input::Read(size) = input else {
-        io::write_all(STDERR_FILENO, b"iculist: standard input cannot be read\n");
-        return;
-    };
-    write_listing(program_files::front(&area, size));
+fn tell() {
+    let mut said = [0u8; SAID_BYTES];
+    let says = program_list::say_unprinted(&mut said);
+    program_io::say(&said, says);
 }
 
 fn main() {
-    run();
+    let mut area = [0u8; AREA_BYTES];
+    let mut printed = [0u8; PRINTED_BYTES];
+    let mut said = [0u8; SAID_BYTES];
+    let input = program_io::read_open(STDIN_FILENO, &mut area);
+    let lengths = program_list::run(input, &area, &mut printed, &mut said);
+    if !print(&printed, lengths.prints) {
+        tell();
+    }
+    program_io::say(&said, lengths.says);
 }

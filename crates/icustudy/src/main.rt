@@ -1,108 +1,96 @@
-// Makes a study file of junctions' texts, and prints a study's sites as texts.
-use libc::STDERR_FILENO;
+// Makes a study file of junctions' texts, and prints a study's sites as texts. What is printed, written and said is the calls'
+// to promise; the rest is input and output.
 use libc::STDOUT_FILENO;
-use program_files::Input;
+use program_make::ALL_ENTRIES;
+use program_outcome::AREA_BYTES;
+use program_outcome::SAID_BYTES;
+use program_study::Job;
+use program_study::STUDY;
 
-// The arguments: what to do, a study file, and a site or the first of the texts.
-const JOB: usize = 1;
+// Room for the job, a study and a site.
+const WORDS_BYTES: usize = 3 * program_io::WORD_ROOM;
 
-const STUDY: usize = 2;
-
-const REST: usize = 3;
-
-fn tell_use() {
-    io::write_all(
-        STDERR_FILENO,
-        b"usage: icustudy make STUDY TEXT ...   makes a study file of the junctions in the texts\n",
-    );
-    io::write_all(
-        STDERR_FILENO,
-        b"       icustudy show STUDY SITE       prints a site of a study file as text, sites from 1\n",
-    );
+// Reads the text that an argument names, and adds its entries.
+fn add_text(
+    argument: usize,
+    site: u32,
+    all: &mut [u32; ALL_ENTRIES],
+    said: &mut [u8; SAID_BYTES],
+) -> usize {
+    let mut name = io::buffer();
+    let mut area = [0u8; AREA_BYTES];
+    let size = os::arg(argument, &mut name);
+    let input = program_io::read_named(&name[..size], &mut area);
+    program_make::add(&name[..size], input, &area, site, all, said)
 }
 
-// Reads a junction from each of the texts that the arguments name; whether all are well.
-fn read_texts(sites: u32, all: &mut [u32]) -> bool {
+// Text after text, until something is said.
+fn add_texts(texts: u32, all: &mut [u32; ALL_ENTRIES], said: &mut [u8; SAID_BYTES]) -> usize {
     let mut site: u32 = 0;
-    while site < sites {
-        if !read_text(REST + site as usize, site, all) {
-            return false;
+    while site < texts {
+        let says = add_text(program_study::BEFORE_TEXTS + site as usize, site, all, said);
+        if says != 0 {
+            return says;
         }
         site += 1;
     }
-    true
+    0
 }
 
-fn read_text(argument: usize, site: u32, all: &mut [u32]) -> bool {
-    let mut entries = [0u32; layout::ENTRIES];
-    if !program_inputs::read_junction(argument, &mut entries) {
-        return false;
-    }
-    put_site(all, site, &entries);
-    true
+fn write_out(words: &[u8], written: &[u8; program_make::WRITTEN_BYTES], size: usize) {
+    program_io::write_out(program_words::word(words, STUDY), written, size);
 }
 
-fn put_site(all: &mut [u32], site: u32, entries: &[u32; layout::ENTRIES]) {
-    program_inputs::put_site(all, site, entries);
+fn write(words: &[u8], texts: u32, all: &[u32; ALL_ENTRIES]) {
+    let mut written = [0u8; program_make::WRITTEN_BYTES];
+    let size = program_make::make(texts, all, &mut written);
+    write_out(words, &written, size);
 }
 
-fn make_of(sites: u32) {
-    let mut all = [0u32; study::MOST_ENTRIES];
-    if read_texts(sites, &mut all) {
-        program_inputs::write_study(STUDY, sites, &all);
-    }
-}
-
-fn make(texts: usize) {
-    if study::MOST_SITES < texts {
-        io::write_all(STDERR_FILENO, b"a study holds at most 180 junctions\n");
+fn make(words: &[u8], texts: u32) {
+    let mut all = [0u32; ALL_ENTRIES];
+    let mut said = [0u8; SAID_BYTES];
+    let says = add_texts(texts, &mut all, &mut said);
+    if says != 0 {
+        program_io::say(&said, says);
         return;
     }
-    make_of(texts as u32);
+    write(words, texts, &all);
 }
 
-fn print_text(text: &[u8; text_writer::TEXT_BYTES], size: usize) {
-    io::write_all(STDOUT_FILENO, program_files::front(text, size));
+fn print(printed: &[u8; program_study::PRINTED_BYTES], size: usize) {
+    program_io::put_out(STDOUT_FILENO, printed, size);
 }
 
-fn print_entries(entries: &[u32; layout::ENTRIES]) {
-    let mut text = [0u8; text_writer::TEXT_BYTES];
-    let size = text_writer::write(entries, &mut text);
-    print_text(&text, size);
+fn show(words: &[u8]) {
+    let mut area = [0u8; AREA_BYTES];
+    let mut printed = [0u8; program_study::PRINTED_BYTES];
+    let mut said = [0u8; SAID_BYTES];
+    let input = program_io::read_named(program_words::word(words, STUDY), &mut area);
+    let lengths = program_study::show(input, words, &area, &mut printed, &mut said);
+    print(&printed, lengths.prints);
+    program_io::say(&said, lengths.says);
 }
 
-fn show_site(file: &[u8]) {
-    let mut entries = [0u32; layout::ENTRIES];
-    if program_inputs::read_site(file, REST, &mut entries) {
-        print_entries(&entries);
-    }
+fn tell(job: Job) {
+    let mut said = [0u8; SAID_BYTES];
+    let says = program_study::say_job(job, &mut said);
+    program_io::say(&said, says);
 }
 
-fn show_from(area: &[u8; program_inputs::AREA_BYTES], size: usize) {
-    show_site(program_files::front(area, size));
-}
-
-fn show() {
-    let mut area = [0u8; program_inputs::AREA_BYTES];
-    let input = program_inputs::read_file(STUDY, &mut area);
-    let Input::Read(size) = input else {
-        return;
-    };
-    show_from(&area, size);
-}
-
-fn run(job: &[u8], count: usize) {
-    if REST < count && check::same(job, b"make") {
-        make(count - REST);
-    } else if count == REST + 1 && check::same(job, b"show") {
-        show();
-    } else {
-        tell_use();
+fn run(words: &[u8]) {
+    let count = os::arg_count();
+    let job = program_study::job_of(count, program_words::word(words, program_study::JOB));
+    match job {
+        Job::Make => make(words, program_study::texts_in(count)),
+        Job::Show => show(words),
+        Job::TooMany => tell(job),
+        Job::Use => tell(job),
     }
 }
 
 fn main() {
-    let mut job = io::buffer();
-    let size = os::arg(JOB, &mut job);
-    run(&job[..size], os::arg_count());
+    let mut words = [0u8; WORDS_BYTES];
+    let size = program_io::take_words(&mut words);
+    run(program_outcome::front(&words, size));
 }

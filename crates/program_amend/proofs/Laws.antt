@@ -1,17 +1,16 @@
 -- Laws of each way that a change, and a run, can go.
-use Prim.Native.Nat.{ℕ, _+_, _≤_, _<_}
-use mathlib.Core.Path.{_≡_, refl, ap}
+use Prim.Native.Nat.{ℕ, _+_, _≤_}
+use mathlib.Core.Path.{_≡_, refl}
 use mathlib.Core.Bool.{Bool, true, false}
 use mathlib.Core.List.{List}
-use lib.ListN.{length, take, drop, length-append, length-take, length-drop}
+use lib.ListN.{length, take, length-append, length-take}
 use lib.Dec.{eqb, leb}
 use native.Mathlib.Omega.{arith}
 use Rattle.answers.specs.declared.Refusal.{Refusal}
 use Rattle.answers.specs.declared.Answer.{Answer}
 use Rattle.answers.specs.declared.Answer.the-variants.{Accepted, Refused as No}
 use Rattle.study.specs.Study.{judgement, sitesOf, siteAnswer}
-use Rattle.lists.specs.Lists.{over}
-use Rattle.text.specs.Text.{ascii, Placed}
+use Rattle.text.specs.Text.{ascii}
 use Rattle.text_refusals.specs.Refusals.{refusalText}
 use Rattle.program_words.specs.Words.{wordAt}
 use Rattle.program_outcome.specs.declared.Call.{Call}
@@ -46,14 +45,6 @@ module _ (file e : List ℕ) (c : Change) where
   pub change-made : changeAnswer e (c .entry) (c .value) ≡ Accepted → changeOf file e c ≡ changeBy Accepted file e c
   unfolding changeOf
   change-made good = rw good
-
--- an area in which a text leaves room has the size that it had
-pub as-long : {list text after : List ℕ} {past : ℕ} → Placed list 0 text after past → past < length after → length list ≡ length after
-unfolding over
-as-long {list} {text} p room =
-    let rest = drop (0 + length text) list in
-    let long = ap length (p .is) in
-    omega (arith, long, room, p .next, length-append text rest, length-drop (0 + length text) list)
 
 -- what is said of an unknown name leaves room for how the program is called
 pub no-entry-fits : (kind : List ℕ) → length (remarked kind NoEntryThere) ≤ wordMost + 64

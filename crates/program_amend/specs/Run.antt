@@ -1,6 +1,6 @@
 -- What `icuamend` gives: what a change of one entry changes on a site's sheet, and the changed study; or what is said.
 use Prim.Native.Nat.{ℕ}
-use mathlib.Core.Bool.{Bool, cond, _||_}
+use mathlib.Core.Bool.{Bool, cond}
 use mathlib.Core.List.{List, [], _++_}
 use lib.ListN.{take}
 use lib.Dec.{eqb}
@@ -25,7 +25,7 @@ use Rattle.text_refusals.specs.Refusals.{refusalText}
 use Rattle.program_words.specs.Words.{wordAt}
 use Rattle.program_outcome.specs.declared.Call.{Call}
 use Rattle.program_outcome.specs.declared.Remark.the-variants.{NoEntry as NoEntryThere}
-use Rattle.program_outcome.specs.Outcome.{Outcome, saying, named, remarked, withFile}
+use Rattle.program_outcome.specs.Outcome.{Outcome, isEither, saying, named, remarked, withFile}
 use Rattle.program_site.specs.Site.{sought, withSite}
 use Rattle.program_amend.specs.declared.Change.{Change}
 use Rattle.program_amend.specs.declared.Asked.{Asked}
@@ -88,7 +88,7 @@ withAsked (NotValue why) kind word run = saying (named word (troubleText why wor
 
 -- the number of arguments, the program's name among them: without a file to write, and with one
 abbrev pub amendTakes : ℕ → Bool
-amendTakes count = eqb count 6 || eqb count 7
+amendTakes count = isEither count 6 7
 
 -- the words: a study, a site, a title, a kind, a value; the name of the file to write, if any
 abbrev pub askedIn : List ℕ → Asked

@@ -16,7 +16,7 @@ ghost use Rattle.text.specs.Text.{Placed};
 ghost use Rattle.program_outcome.specs.Outcome.{Left};
 ghost use Rattle.program_amend.specs.Run.{asked, askedIn, changeAnswer, changedSheet, changeOf, changeAt};
 ghost use Rattle.program_amend.specs.Run.{amendUse, noEntryText, amendTakes, amendRun};
-ghost use Rattle.program_amend.specs.Working.{onlySaid, useMost};
+ghost use Rattle.program_amend.specs.Working.{useMost};
 use answers::Answer;
 use kinds::Kind;
 use layout::CELLS;
@@ -80,16 +80,6 @@ fn ask(title: &[u8], kind: &[u8], value: &[u8]) -> Asked
     match word {
         Value::Is(number) => Asked::Entry(entry, number),
         Value::Not(why) => Asked::NotValue(why),
-    }
-}
-
-fn only_said(says: usize) -> Lengths
-    ensures { λ r. ⌜ r ≡ onlySaid says ⌝ }
-{
-    Lengths {
-        prints: 0,
-        writes: 0,
-        says,
     }
 }
 
@@ -168,7 +158,7 @@ fn change_site(
     let mut after = [0u32; CELLS];
     let answer = amend_cells(entries, change.entry, change.value, &mut before, &mut after);
     if let Answer::Refused(why, place) = answer {
-        return only_said(program_refusals::say_answer(
+        return program_outcome::only_said(program_refusals::say_answer(
             Answer::Refused(why, place),
             said,
         ));
@@ -208,8 +198,8 @@ fn change_at(
             };
             change_site(file, &entries, change, printed, written, said)
         }
-        Sought::Missing => only_said(program_site::say_site(sought, word, said)),
-        Sought::Bad(_, _) => only_said(program_site::say_site(sought, word, said)),
+        Sought::Missing => program_outcome::only_said(program_site::say_site(sought, word, said)),
+        Sought::Bad(_, _) => program_outcome::only_said(program_site::say_site(sought, word, said)),
     }
 }
 
@@ -255,10 +245,7 @@ fn ask_words(words: &[u8]) -> Asked
 pub fn takes(count: usize) -> bool
     ensures { λ r. ⌜ r ≡ amendTakes count ⌝ }
 {
-    if count == TO_PRINT {
-        return true;
-    }
-    count == TO_WRITE
+    program_outcome::is_either(count, TO_PRINT, TO_WRITE)
 }
 
 // What `icuamend` gives; its study was read into the area.
@@ -276,14 +263,17 @@ pub fn run(
 {
     let count = call.arguments;
     if !takes(count) {
-        return only_said(say_use(said));
+        return program_outcome::only_said(say_use(said));
     }
     let asked = ask_words(words);
     match asked {
-        Asked::NoEntry => only_said(say_no_entry(program_words::word(words, KIND), said)),
+        Asked::NoEntry => program_outcome::only_said(say_no_entry(
+            program_words::word(words, KIND),
+            said,
+        )),
         Asked::NotValue(why) => {
             let value = program_words::word(words, VALUE);
-            only_said(program_refusals::say_trouble(value, why, said))
+            program_outcome::only_said(program_refusals::say_trouble(value, why, said))
         }
         Asked::Entry(entry, value) => {
             let kept = count == TO_WRITE;
@@ -296,7 +286,7 @@ pub fn run(
             let input = call.input;
             let Input::Read(size) = input else {
                 let name = program_words::word(words, NAME);
-                return only_said(program_outcome::say(name, Remark::Unread, said));
+                return program_outcome::only_said(program_outcome::say(name, Remark::Unread, said));
             };
             let file = program_outcome::front(area, size);
             let site = program_words::word(words, SITE);

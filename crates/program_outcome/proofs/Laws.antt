@@ -1,8 +1,8 @@
 -- Laws of texts that go by cases, and of texts made apart before they are put.
-use Prim.Native.Nat.{ℕ, _+_, _≤_}
-use mathlib.Core.Path.{_≡_, refl}
+use Prim.Native.Nat.{ℕ, _+_, _≤_, _<_}
+use mathlib.Core.Path.{_≡_, refl, ap}
 use mathlib.Core.List.{List, _++_}
-use lib.ListN.{length, take, drop, length-append}
+use lib.ListN.{length, take, drop, length-append, length-drop}
 use native.Mathlib.Omega.{arith}
 use Rattle.lists.specs.Lists.{over}
 use Rattle.lists.proofs.Laws.{front-over}
@@ -26,6 +26,14 @@ pub placed-within : {list text after : List ℕ} {past : ℕ} → Placed list 0 
 unfolding over
 placed-within {list} {text} {after} {past} p =
     rw (p .is) (omega (arith, p .next, length-append text (drop (0 + length text) list)))
+
+-- an area in which a text leaves room has the size that it had
+pub as-long : {list text after : List ℕ} {past : ℕ} → Placed list 0 text after past → past < length after → length list ≡ length after
+unfolding over
+as-long {list} {text} p room =
+    let rest = drop (0 + length text) list in
+    let long = ap length (p .is) in
+    omega (arith, long, room, p .next, length-append text rest, length-drop (0 + length text) list)
 
 -- what is left where a program only prints, or only says
 pub left-printing : {text printed said printed′ : List ℕ} {n : ℕ} → Placed printed 0 text printed′ n

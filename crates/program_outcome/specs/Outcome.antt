@@ -1,13 +1,15 @@
 -- What one run of a program gives: three texts, functions of the bytes of its arguments and of the files that it read.
 use Prim.Native.Nat.{ℕ}
 use mathlib.Core.Path.{_≡_}
+use mathlib.Core.Bool.{Bool, _||_}
 use mathlib.Core.List.{List, [], _++_}
 use lib.ListN.{length, take}
+use lib.Dec.{eqb}
 use Rattle.text.specs.Text.{ascii, Placed}
 use Rattle.program_outcome.specs.declared.Input.{Input}
 use Rattle.program_outcome.specs.declared.Input.the-variants.{Read, Failed}
 use Rattle.program_outcome.specs.declared.Remark.{Remark}
-use Rattle.program_outcome.specs.declared.Remark.the-variants.{Unread, Unwritten, NoSite, NoEntry, NotNumber}
+use Rattle.program_outcome.specs.declared.Remark.the-variants.{Unread, Unwritten, NoSite, NoEntry, NotNumber, NoInput, NoOutput}
 use Rattle.program_outcome.specs.declared.Lengths.{Lengths}
 
 -- what goes to standard output, to a file, and to standard error; a file is written where there is something for it
@@ -25,6 +27,10 @@ writing bytes = record { prints = []; writes = bytes; says = [] }
 abbrev pub saying : List ℕ → Outcome
 saying text = record { prints = []; writes = []; says = text }
 
+-- a number of arguments that is one of two
+abbrev pub isEither : ℕ → ℕ → ℕ → Bool
+isEither number one other = eqb number one || eqb number other
+
 -- the bytes of an argument that are shown: all, since none that is longer is taken
 abbrev pub wordMost : ℕ
 wordMost = 4_096
@@ -36,13 +42,15 @@ opening word = take wordMost word ++ ascii ": "
 unfoldable pub named : List ℕ → List ℕ → List ℕ
 named word what = opening word ++ what
 
--- a row for each sentence that is said of an argument
+-- a row for each sentence that is said of an argument, or of the program itself
 unfoldable pub remarkText : Remark → List ℕ
 remarkText Unread = ascii "cannot be read\n"
 remarkText Unwritten = ascii "cannot be written\n"
 remarkText NoSite = ascii "the study has no such site\n"
 remarkText NoEntry = ascii "no entry has this name there\n"
 remarkText NotNumber = ascii "a whole number is expected here\n"
+remarkText NoInput = ascii "standard input cannot be read\n"
+remarkText NoOutput = ascii "standard output cannot be written\n"
 
 abbrev pub remarked : List ℕ → Remark → List ℕ
 remarked word remark = named word (remarkText remark)

@@ -1,5 +1,6 @@
--- How long a sentence and what stands before it are at most: no public promise says it.
+-- The lengths of what is only said, and how long a sentence and what stands before it are at most: no public promise says it.
 use Prim.Native.Nat.{ℕ, _+_}
+use Rattle.program_outcome.specs.declared.Lengths.{Lengths}
 use Rattle.program_outcome.specs.Outcome.{wordMost}
 
 -- an argument and ": "
@@ -8,3 +9,6 @@ openingMost = wordMost + 2
 
 abbrev pub remarkMost : ℕ
 remarkMost = 64
+
+abbrev pub onlySaid : ℕ → Lengths
+onlySaid size = record { prints = 0; writes = 0; says = size }

@@ -3,8 +3,8 @@ ghost use mathlib.Core.Path.{_≡_};
 ghost use Prim.Native.Nat.{_+_, _≤_};
 ghost use lib.ListN.{length, take};
 ghost use Rattle.text.specs.Text.{Placed};
-ghost use Rattle.program_outcome.specs.Outcome.{opening, named, remarkText, remarked};
-ghost use Rattle.program_outcome.specs.Working.{openingMost, remarkMost};
+ghost use Rattle.program_outcome.specs.Outcome.{isEither, opening, named, remarkText, remarked};
+ghost use Rattle.program_outcome.specs.Working.{onlySaid, openingMost, remarkMost};
 
 // What reading a file into an area came to: how many bytes were read.
 pub enum Input {
@@ -12,13 +12,15 @@ pub enum Input {
     Failed,
 }
 
-// What is said of an argument.
+// What is said of an argument, or of the program itself.
 pub enum Remark {
     Unread,
     Unwritten,
     NoSite,
     NoEntry,
     NotNumber,
+    NoInput,
+    NoOutput,
 }
 
 // How a program was called: how many arguments it has, its own name among them, and what reading its file came to.
@@ -53,6 +55,27 @@ pub fn front(bytes: &[u8], size: usize) -> &[u8]
     bytes
 }
 
+// The lengths where something is said and nothing else is given.
+pub fn only_said(says: usize) -> Lengths
+    ensures { λ r. ⌜ r ≡ onlySaid says ⌝ }
+{
+    Lengths {
+        prints: 0,
+        writes: 0,
+        says,
+    }
+}
+
+// Whether a number is one of two.
+pub fn is_either(number: usize, one: usize, other: usize) -> bool
+    ensures { λ r. ⌜ r ≡ isEither number one other ⌝ }
+{
+    if number == one {
+        return true;
+    }
+    number == other
+}
+
 // Puts an argument and a colon, before what is said of it.
 fn put_opening(out: &mut [u8], word: &[u8]) -> usize
     requires { ⌜ openingMost ≤ length (now out) ⌝ }
@@ -81,6 +104,8 @@ fn put_remark(out: &mut [u8], at: usize, remark: Remark) -> usize
         Remark::NoSite => text::put_bytes(out, at, b"the study has no such site\n"),
         Remark::NoEntry => text::put_bytes(out, at, b"no entry has this name there\n"),
         Remark::NotNumber => text::put_bytes(out, at, b"a whole number is expected here\n"),
+        Remark::NoInput => text::put_bytes(out, at, b"standard input cannot be read\n"),
+        Remark::NoOutput => text::put_bytes(out, at, b"standard output cannot be written\n"),
     }
 }
 

@@ -38,12 +38,7 @@ pub fn say_answer(answer: Answer, said: &mut [u8; SAID_BYTES]) -> usize
 }
 
 // Says what is wrong with the text of the file of that name.
-pub fn say_reading(
-    name: &[u8],
-    text: &[u8],
-    reading: Reading,
-    said: &mut [u8; SAID_BYTES],
-) -> usize
+pub fn say_reading(name: &[u8], text: &[u8], reading: Reading, said: &mut [u8; SAID_BYTES]) -> usize
     ensures { λ r. ⌜ Placed (now (said .entry)) 0 (named (now (name .entry)) (readingText (now (text .entry)) reading)) (now (said .exit)) r ⌝ }
 {
     let mut saying = [0u8; SAYING_BYTES];

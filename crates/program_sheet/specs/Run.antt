@@ -1,6 +1,6 @@
 -- What `icusheet` gives: the worksheet of a junction's text or of a site of a study, or what is said.
 use Prim.Native.Nat.{ℕ}
-use mathlib.Core.Bool.{Bool, cond, _||_}
+use mathlib.Core.Bool.{Bool, cond}
 use mathlib.Core.List.{List}
 use lib.Dec.{eqb}
 use Rattle.answers.specs.declared.Answer.{Answer}
@@ -17,7 +17,7 @@ use Rattle.text_reader.specs.declared.Reading.the-variants.{Read, Misread, Refu
 use Rattle.text_refusals.specs.Refusals.{refusalText, readingText}
 use Rattle.program_words.specs.Words.{wordAt}
 use Rattle.program_outcome.specs.declared.Call.{Call}
-use Rattle.program_outcome.specs.Outcome.{Outcome, printing, saying, named, withFile}
+use Rattle.program_outcome.specs.Outcome.{Outcome, isEither, printing, saying, named, withFile}
 use Rattle.program_site.specs.Site.{sought, withSite}
 
 -- the sheet that is filled from entries, or why they are refused
@@ -48,7 +48,7 @@ sheetUse =
 
 -- the number of arguments, the program's name among them: a text; a study and a site
 abbrev pub sheetTakes : ℕ → Bool
-sheetTakes count = eqb count 2 || eqb count 3
+sheetTakes count = isEither count 2 3
 
 abbrev pub sheetOfFile : ℕ → List ℕ → List ℕ → Outcome
 sheetOfFile count words file = cond (eqb count 2) (sheetOfText (wordAt words 0) file) (sheetOfSite (wordAt words 1) file)

@@ -3,7 +3,6 @@ ghost use mathlib.Core.Path.{_≡_};
 ghost use lib.ListN.{length};
 ghost use Rattle.text.specs.Text.{Placed};
 ghost use Rattle.program_outcome.specs.Outcome.{Left};
-ghost use Rattle.program_sheet.specs.Working.{onlySaid};
 ghost use Rattle.program_sheet.specs.Run.{sheetOf, sheetOfText, sheetOfSite, sheetOfFile, sheetUse, sheetTakes, sheetRun};
 use answers::Answer;
 use layout::CELLS;
@@ -30,16 +29,6 @@ const NAME: usize = 0;
 
 const SITE: usize = 1;
 
-fn only_said(says: usize) -> Lengths
-    ensures { λ r. ⌜ r ≡ onlySaid says ⌝ }
-{
-    Lengths {
-        prints: 0,
-        writes: 0,
-        says,
-    }
-}
-
 // A page takes all of its area.
 fn size_of(area: &[u8]) -> usize
     ensures { λ r. ⌜ r ≡ length (now (area .entry)) ⌝ }
@@ -57,7 +46,7 @@ fn print_sheet(
     let mut cells = [0u32; CELLS];
     let answer = sheet::fill(entries, &mut cells);
     if let Answer::Refused(why, place) = answer {
-        return only_said(program_refusals::say_answer(
+        return program_outcome::only_said(program_refusals::say_answer(
             Answer::Refused(why, place),
             said,
         ));
@@ -85,10 +74,10 @@ fn sheet_of_text(
     match reading {
         Reading::Read => print_sheet(&entries, printed, said),
         Reading::Misread(_, _) => {
-            only_said(program_refusals::say_reading(name, text, reading, said))
+            program_outcome::only_said(program_refusals::say_reading(name, text, reading, said))
         }
         Reading::Refused(_, _, _) => {
-            only_said(program_refusals::say_reading(name, text, reading, said))
+            program_outcome::only_said(program_refusals::say_reading(name, text, reading, said))
         }
     }
 }
@@ -106,8 +95,8 @@ fn sheet_of_site(
     let sought = program_site::read_site(file, word, &mut entries);
     match sought {
         Sought::Site(_) => print_sheet(&entries, printed, said),
-        Sought::Missing => only_said(program_site::say_site(sought, word, said)),
-        Sought::Bad(_, _) => only_said(program_site::say_site(sought, word, said)),
+        Sought::Missing => program_outcome::only_said(program_site::say_site(sought, word, said)),
+        Sought::Bad(_, _) => program_outcome::only_said(program_site::say_site(sought, word, said)),
     }
 }
 
@@ -115,10 +104,7 @@ fn sheet_of_site(
 pub fn takes(count: usize) -> bool
     ensures { λ r. ⌜ r ≡ sheetTakes count ⌝ }
 {
-    if count == OF_TEXT {
-        return true;
-    }
-    count == OF_STUDY
+    program_outcome::is_either(count, OF_TEXT, OF_STUDY)
 }
 
 fn say_use(said: &mut [u8; SAID_BYTES]) -> usize
@@ -162,12 +148,12 @@ pub fn run(
 {
     let count = call.arguments;
     if !takes(count) {
-        return only_said(say_use(said));
+        return program_outcome::only_said(say_use(said));
     }
     let input = call.input;
     let Input::Read(size) = input else {
         let name = program_words::word(words, NAME);
-        return only_said(program_outcome::say(name, Remark::Unread, said));
+        return program_outcome::only_said(program_outcome::say(name, Remark::Unread, said));
     };
     let file = program_outcome::front(area, size);
     sheet_of_file(count, words, file, printed, said)

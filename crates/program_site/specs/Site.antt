@@ -7,7 +7,7 @@ use Rattle.answers.specs.declared.Answer.{Answer}
 use Rattle.answers.specs.declared.Answer.the-variants.{Accepted, Refused as No}
 use Rattle.text_numbers.specs.Numbers.{tooLarge, numberOf}
 use Rattle.text_refusals.specs.Refusals.{refusalText}
-use Rattle.study.specs.Study.{sitesOf, judgement, siteEntries}
+use Rattle.study.specs.Study.{sitesOf, judgement}
 use Rattle.program_outcome.specs.declared.Remark.the-variants.{NoSite}
 use Rattle.program_outcome.specs.Outcome.{Outcome, saying, remarked}
 use Rattle.program_site.specs.declared.Sought.{Sought}
@@ -31,12 +31,6 @@ soughtBy (No why place) lacks site = Bad why place
 
 unfoldable pub sought : List ℕ → List ℕ → Sought
 sought file word = soughtBy (judgement file) (leb (sitesOf file) (siteNamed word)) (siteNamed word)
-
--- what a lent list of entries holds afterwards
-abbrev pub entriesSought : Sought → List ℕ → List ℕ → List ℕ
-entriesSought (Site site) file old = siteEntries file site
-entriesSought Missing file old = old
-entriesSought (Bad why place) file old = old
 
 -- what is said
 abbrev pub soughtText : Sought → List ℕ → List ℕ

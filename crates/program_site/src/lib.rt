@@ -1,7 +1,8 @@
 // The site of a study file that an argument names.
 ghost use mathlib.Core.Path.{_≡_};
 ghost use Rattle.text.specs.Text.{Placed};
-ghost use Rattle.program_site.specs.Site.{siteOf, sought, entriesSought, soughtText};
+ghost use Rattle.program_site.specs.Site.{siteOf, sought, soughtText};
+ghost use Rattle.program_site.specs.Working.{entriesSought};
 use answers::Answer;
 use answers::Refusal;
 use program_outcome::Remark;

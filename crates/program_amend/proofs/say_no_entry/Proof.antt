@@ -1,4 +1,5 @@
-use Rattle.program_amend.proofs.Laws.{as-long, no-entry-fits}
+use Rattle.program_amend.proofs.Laws.{no-entry-fits}
+use Rattle.program_outcome.proofs.Laws.{as-long}
 use Rattle.program_amend.specs.Run.{noEntryText}
 use Rattle.text.proofs.Laws.{placed-after}
 use native.Mathlib.Omega.{arith}

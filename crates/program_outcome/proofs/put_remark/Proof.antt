@@ -11,7 +11,12 @@ unfolding remarkText ascii
 put-remark-spec =
     tie.close
     (tie.spec (search needs) (search needs) (search needs) (search needs) (search needs) (search needs) (search needs)
+    (search needs) (search needs) (search needs) (search needs) (search needs) (search needs) (search needs) (search needs)
     (search needs) (search needs) (search needs) (search needs) (search needs) (search needs) (search needs)
-    (search needs) (search needs) (λ c. (search (placed-as remarkText), search needs)) (search needs)
-    (λ c. (search (placed-as remarkText), search needs)) (search needs) (λ c. (search (placed-as remarkText), search needs)) (search needs)
-    (λ c. (search (placed-as remarkText), search needs)) (search needs) (λ c. (search (placed-as remarkText), search needs)))
+    (λ c. (search (placed-as remarkText), search needs)) (search needs)
+    (λ c. (search (placed-as remarkText), search needs)) (search needs)
+    (λ c. (search (placed-as remarkText), search needs)) (search needs)
+    (λ c. (search (placed-as remarkText), search needs)) (search needs)
+    (λ c. (search (placed-as remarkText), search needs)) (search needs)
+    (λ c. (search (placed-as remarkText), search needs)) (search needs)
+    (λ c. (search (placed-as remarkText), search needs)))

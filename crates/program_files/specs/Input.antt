@@ -1,9 +1,0 @@
--- Working definition: how much reading can have come to.
-use Prim.Native.Nat.{ℕ, _≤_}
-use Rattle.program_files.specs.declared.Input.{Input}
-use Rattle.program_files.specs.declared.Input.the-variants.{Read, Failed}
-
--- what was read lies within an area of this size
-abbrev pub Within : Input → ℕ → Type 0
-Within (Read count) size = count ≤ size
-Within Failed size = Unit {0}

@@ -1,0 +1,13 @@
+use borrow.Author.Tests.{eq-eqb, ne-eqb}
+use borrow.Author.Needs.{needs}
+use Rattle.program_outcome.proofs.is_either.Statement.{statement}
+use Rattle.program_outcome.proofs.is_either.Tie as tie
+
+returns : tie.Need-returns
+returns c = rw (eq-eqb _ _ (c .if1 .taken))
+
+returns-2 : tie.Need-returns-2
+returns-2 c = rw (ne-eqb _ _ (c .if1 .left))
+
+pub is-either-spec : {M : Type 1} → statement M
+is-either-spec = tie.close (tie.spec returns returns-2)

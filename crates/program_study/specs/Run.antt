@@ -1,0 +1,55 @@
+-- What `icustudy` is asked to do, and what `icustudy show` gives: a site of a study as text, or what is said.
+use Prim.Native.Nat.{ℕ, _-_, min}
+use mathlib.Core.Bool.{Bool, true, false, cond, _&&_}
+use mathlib.Core.List.{List, [], _∷_, _++_}
+use lib.Dec.{eqb, leb, ltb}
+use Rattle.text.specs.Text.{ascii}
+use Rattle.text_writer.specs.Writer.{junctionText}
+use Rattle.study.specs.Study.{siteLimit, siteEntries}
+use Rattle.program_words.specs.Words.{wordAt}
+use Rattle.program_outcome.specs.declared.Input.{Input}
+use Rattle.program_outcome.specs.Outcome.{Outcome, printing, withFile}
+use Rattle.program_site.specs.Site.{sought, withSite}
+use Rattle.program_study.specs.declared.Job.{Job}
+use Rattle.program_study.specs.declared.Job.the-variants.{Make, Show, TooMany, Use}
+
+-- whether two words are the same
+unfoldable pub same : List ℕ → List ℕ → Bool
+same [] [] = true
+same [] (other ∷ others) = false
+same (byte ∷ bytes) [] = false
+same (byte ∷ bytes) (other ∷ others) = eqb byte other && same bytes others
+
+-- the arguments before the first text: the program's name, the job's, and the study's
+abbrev pub beforeTexts : ℕ
+beforeTexts = 3
+
+-- how many texts are read: a study holds no more
+abbrev pub textsIn : ℕ → ℕ
+textsIn count = min (count - beforeTexts) siteLimit
+
+-- by the number of arguments, the program's name among them, and the job's name
+unfoldable pub jobOf : ℕ → List ℕ → Job
+jobOf count job =
+    cond (same job (ascii "make")) (cond (leb count beforeTexts) Use (cond (ltb siteLimit (count - beforeTexts)) TooMany Make))
+    (cond (same job (ascii "show")) (cond (eqb count 4) Show Use) Use)
+
+unfoldable pub studyUse : List ℕ
+studyUse =
+    ascii "usage: icustudy make STUDY TEXT ...   makes a study file of the junctions in the texts\n"
+    ++ ascii "       icustudy show STUDY SITE       prints a site of a study file as text, sites from 1\n"
+
+-- what is said where neither is to be done
+unfoldable pub jobText : Job → List ℕ
+jobText Make = []
+jobText Show = []
+jobText TooMany = ascii "a study holds at most 180 junctions\n"
+jobText Use = studyUse
+
+-- the text of the site that a word names
+unfoldable pub showAt : List ℕ → List ℕ → Outcome
+showAt word file = withSite (sought file word) word (λ site. printing (junctionText (siteEntries file site)))
+
+-- the words: the job, a study, a site
+unfoldable pub showRun : Input → List ℕ → List ℕ → Outcome
+showRun input words area = withFile input (wordAt words 1) area (showAt (wordAt words 2))
