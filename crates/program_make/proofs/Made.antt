@@ -19,7 +19,7 @@ use Rattle.study.specs.Study.{siteLimit}
 use Rattle.text.specs.Text.{ascii}
 use Rattle.text_words.specs.declared.Found.{Found}
 use Rattle.text_words.specs.declared.Found.the-variants.{Well as Fine, Wrong}
-use Rattle.text_words.specs.declared.Trouble.the-variants.{TooLong}
+use Rattle.text_values.specs.declared.Trouble.the-variants.{TooLong}
 use Rattle.text_scan.specs.Scanning.{parsed}
 use Rattle.text_reader.specs.Reader.{foundAs, shortReading, textMost, reading}
 use Rattle.text_reader.specs.declared.Reading.{Reading}
