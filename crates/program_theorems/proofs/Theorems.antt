@@ -1,0 +1,153 @@
+-- The theorems of the programs. Each program reads, makes the calls below and writes what they leave: of each call, it keeps its
+-- promise, as the check proved it of its code; its promise is the definition of what the program gives, word for word; and any two
+-- outcomes that it allows agree. What is left without a promise is input and output alone.
+use mathlib.Core.Path.{_≡_, refl, sym, _∙_}
+use mathlib.Core.List.{List, []}
+use Prim.Native.Nat.{ℕ, _*_, _≤_}
+use lib.ListN.{length}
+use contract.Lifetimes.{Lfts}
+use contract.Notation.{connectives}
+use denote.Ref.{now}
+use denote.Triple.Clauses.{AtExit}
+use borrow.Fn.World.{World, ArgsD, ResD, Pr}
+use Rattle.layout.specs.Entries.{entryCount}
+use Rattle.study.specs.Study.{siteLimit}
+use Rattle.text.specs.Text.{Placed}
+use Rattle.program_outcome.specs.declared.Lengths.{Lengths}
+use Rattle.program_outcome.specs.Outcome.{Outcome, Left}
+use Rattle.program_sheet.specs.Run.{sheetRun}
+use Rattle.program_amend.specs.Run.{amendRun}
+use Rattle.program_study.specs.Run.{jobText, showRun}
+use Rattle.program_make.specs.Make.{textSays, textAdds, studyOf}
+use Rattle.program_make.specs.Steps.{Typed, made, steps, finished}
+use Rattle.program_make.proofs.Made.{made-of-texts as texts-made}
+use Rattle.program_list.specs.Run.{listRun}
+use Rattle.program_sheet.proofs.run as sheet
+use Rattle.program_sheet.proofs.run.Statement as sheet-stated
+use Rattle.program_sheet.proofs.run.Reads as sheet-reads
+use Rattle.program_sheet.proofs.run.Met as sheet-met
+use Rattle.program_amend.proofs.run as amend
+use Rattle.program_amend.proofs.run.Statement as amend-stated
+use Rattle.program_amend.proofs.run.Reads as amend-reads
+use Rattle.program_amend.proofs.run.Met as amend-met
+use Rattle.program_study.proofs.say_job as job
+use Rattle.program_study.proofs.say_job.Statement as job-stated
+use Rattle.program_study.proofs.say_job.Reads as job-reads
+use Rattle.program_study.proofs.say_job.Met as job-met
+use Rattle.program_study.proofs.show as show
+use Rattle.program_study.proofs.show.Statement as show-stated
+use Rattle.program_study.proofs.show.Reads as show-reads
+use Rattle.program_study.proofs.show.Met as show-met
+use Rattle.program_make.proofs.add as add
+use Rattle.program_make.proofs.add.Statement as add-stated
+use Rattle.program_make.proofs.add.Reads as add-reads
+use Rattle.program_make.proofs.add.Met as add-met
+use Rattle.program_make.proofs.make as make
+use Rattle.program_make.proofs.make.Statement as make-stated
+use Rattle.program_make.proofs.make.Reads as make-reads
+use Rattle.program_make.proofs.make.Met as make-met
+use Rattle.program_list.proofs.run as list
+use Rattle.program_list.proofs.run.Statement as list-stated
+use Rattle.program_list.proofs.run.Reads as list-reads
+use Rattle.program_list.proofs.run.Met as list-met
+
+-- ANY TWO OUTCOMES of what is put at the front of an area agree, and so do those of a program's three texts.
+pub placed-agree :
+    {before part one other : List ℕ} {at past end : ℕ} → Placed before at part one past → Placed before at part other end
+    → (one ≡ other) × (past ≡ end)
+placed-agree p q = (p .is ∙ sym (q .is), p .next ∙ sym (q .next))
+
+pub record Same (printed said printed′ said′ : List ℕ) (one other : Lengths) : Type 0 where
+  pub prints : printed ≡ printed′
+  pub says : said ≡ said′
+  pub lengths : (one .prints ≡ other .prints) × (one .writes ≡ other .writes) × (one .says ≡ other .says)
+
+pub left-agree :
+    (run : Outcome) {printed said p p′ s s′ : List ℕ} {one other : Lengths}
+    → Left run printed said p s one → Left run printed said p′ s′ other → Same p s p′ s′ one other
+left-agree run l m =
+    let prints = placed-agree (l .prints) (m .prints) in
+    let says = placed-agree (l .says) (m .says) in
+    record { prints = prints .0; says = says .0; lengths = (prints .1, l .writes ∙ sym (m .writes), says .1) }
+
+-- TEXT AFTER TEXT. `icustudy make` takes its texts one by one, the entries of each put after those before it: what is left at the
+-- end is the study file of all their entries in order, or what is said of the first text that is not well.
+pub made-of-texts :
+    (all : List ℕ) (texts : List Typed) → length all ≡ entryCount * siteLimit → length texts ≤ siteLimit
+    → finished (steps (record { all = all; sites = 0; says = [] }) texts) ≡ made [] texts
+made-of-texts = texts-made
+
+-- THE CALLS THEMSELVES. A clause of a promise says this fact and nothing else.
+abbrev Exactly : (w : World) → Pr w → Type 0 → Type 2
+Exactly w clause fact = clause ≡ connectives (w .𝓤) .⌜_⌝ fact
+
+abbrev Both : (w : World) → Pr w → Type 0 → Type 0 → Type 2
+Both w clause fact other = clause ≡ connectives (w .𝓤) ._∗_ (connectives (w .𝓤) .⌜_⌝ fact) (connectives (w .𝓤) .⌜_⌝ other)
+
+-- a: what the call is given, r: what it answers, s: what it leaves
+pub sheet-keeps : {M : Type 1} → sheet-stated.statement M
+sheet-keeps = sheet-met.met
+
+pub sheet-promises :
+    (κs : Lfts 4) (a : ArgsD sheet.signature κs) (r : ResD sheet.signature κs) (s : AtExit sheet.ended κs) (w : World)
+    → Exactly w (sheet-reads.ensures κs a tt r s w)
+      (Left (sheetRun (a .0) (now (a .1 .0)) (now (a .1 .1 .0))) (now (a .1 .1 .1 .0)) (now (a .1 .1 .1 .1 .0)) (now (s .1 .1 .1 .0))
+      (now (s .1 .1 .1 .1 .0)) r)
+sheet-promises κs a r s w = refl
+
+pub amend-keeps : {M : Type 1} → amend-stated.statement M
+amend-keeps = amend-met.met
+
+pub amend-promises :
+    (κs : Lfts 5) (a : ArgsD amend.signature κs) (r : ResD amend.signature κs) (s : AtExit amend.ended κs) (w : World)
+    → let run = amendRun (a .0) (now (a .1 .0)) (now (a .1 .1 .0)) in
+      Both w (amend-reads.ensures κs a tt r s w)
+      (Left run (now (a .1 .1 .1 .0)) (now (a .1 .1 .1 .1 .1 .0)) (now (s .1 .1 .1 .0)) (now (s .1 .1 .1 .1 .1 .0)) r)
+      (Placed (now (a .1 .1 .1 .1 .0)) 0 (run .writes) (now (s .1 .1 .1 .1 .0)) (r .writes))
+amend-promises κs a r s w = refl
+
+pub job-keeps : {M : Type 1} → job-stated.statement M
+job-keeps = job-met.met
+
+pub job-promises :
+    (κs : Lfts 1) (a : ArgsD job.signature κs) (r : ResD job.signature κs) (s : AtExit job.ended κs) (w : World)
+    → Exactly w (job-reads.ensures κs a tt r s w) (Placed (now (a .1 .0)) 0 (jobText (a .0)) (now (s .1 .0)) r)
+job-promises κs a r s w = refl
+
+pub show-keeps : {M : Type 1} → show-stated.statement M
+show-keeps = show-met.met
+
+pub show-promises :
+    (κs : Lfts 4) (a : ArgsD show.signature κs) (r : ResD show.signature κs) (s : AtExit show.ended κs) (w : World)
+    → Exactly w (show-reads.ensures κs a tt r s w)
+      (Left (showRun (a .0) (now (a .1 .0)) (now (a .1 .1 .0))) (now (a .1 .1 .1 .0)) (now (a .1 .1 .1 .1 .0)) (now (s .1 .1 .1 .0))
+      (now (s .1 .1 .1 .1 .0)) r)
+show-promises κs a r s w = refl
+
+pub add-keeps : {M : Type 1} → add-stated.statement M
+add-keeps = add-met.met
+
+pub add-promises :
+    (κs : Lfts 4) (a : ArgsD add.signature κs) (r : ResD add.signature κs) (s : AtExit add.ended κs) (w : World)
+    → Both w (add-reads.ensures κs a tt r s w)
+      (Placed (now (a .1 .1 .1 .1 .1 .0)) 0 (textSays (a .1 .0) (now (a .0)) (now (a .1 .1 .0))) (now (s .1 .1 .1 .1 .1 .0)) r)
+      (now (s .1 .1 .1 .1 .0) ≡ textAdds (a .1 .0) (now (a .1 .1 .0)) (a .1 .1 .1 .0) (now (a .1 .1 .1 .1 .0)))
+add-promises κs a r s w = refl
+
+pub make-keeps : {M : Type 1} → make-stated.statement M
+make-keeps = make-met.met
+
+pub make-promises :
+    (κs : Lfts 2) (a : ArgsD make.signature κs) (r : ResD make.signature κs) (s : AtExit make.ended κs) (w : World)
+    → Exactly w (make-reads.ensures κs a tt r s w)
+      (Placed (now (a .1 .1 .0)) 0 (studyOf (a .0) (now (a .1 .0))) (now (s .1 .1 .0)) r)
+make-promises κs a r s w = refl
+
+pub list-keeps : {M : Type 1} → list-stated.statement M
+list-keeps = list-met.met
+
+pub list-promises :
+    (κs : Lfts 3) (a : ArgsD list.signature κs) (r : ResD list.signature κs) (s : AtExit list.ended κs) (w : World)
+    → Exactly w (list-reads.ensures κs a tt r s w)
+      (Left (listRun (a .0) (now (a .1 .0))) (now (a .1 .1 .0)) (now (a .1 .1 .1 .0)) (now (s .1 .1 .0)) (now (s .1 .1 .1 .0)) r)
+list-promises κs a r s w = refl

@@ -1,0 +1,1 @@
+// The theorems of the programs' calls, in proofs/Theorems.antt.
