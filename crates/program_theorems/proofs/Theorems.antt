@@ -91,8 +91,8 @@ sheet-keeps = sheet-met.met
 pub sheet-promises :
     (κs : Lfts 4) (a : ArgsD sheet.signature κs) (r : ResD sheet.signature κs) (s : AtExit sheet.ended κs) (w : World)
     → Exactly w (sheet-reads.ensures κs a tt r s w)
-      (Left (sheetRun (a .0) (now (a .1 .0)) (now (a .1 .1 .0))) (now (a .1 .1 .1 .0)) (now (a .1 .1 .1 .1 .0)) (now (s .1 .1 .1 .0))
-      (now (s .1 .1 .1 .1 .0)) r)
+    (Left (sheetRun (a .0) (now (a .1 .0)) (now (a .1 .1 .0))) (now (a .1 .1 .1 .0)) (now (a .1 .1 .1 .1 .0)) (now (s .1 .1 .1 .0))
+    (now (s .1 .1 .1 .1 .0)) r)
 sheet-promises κs a r s w = refl
 
 pub amend-keeps : {M : Type 1} → amend-stated.statement M
@@ -101,9 +101,9 @@ amend-keeps = amend-met.met
 pub amend-promises :
     (κs : Lfts 5) (a : ArgsD amend.signature κs) (r : ResD amend.signature κs) (s : AtExit amend.ended κs) (w : World)
     → let run = amendRun (a .0) (now (a .1 .0)) (now (a .1 .1 .0)) in
-      Both w (amend-reads.ensures κs a tt r s w)
-      (Left run (now (a .1 .1 .1 .0)) (now (a .1 .1 .1 .1 .1 .0)) (now (s .1 .1 .1 .0)) (now (s .1 .1 .1 .1 .1 .0)) r)
-      (Placed (now (a .1 .1 .1 .1 .0)) 0 (run .writes) (now (s .1 .1 .1 .1 .0)) (r .writes))
+    Both w (amend-reads.ensures κs a tt r s w)
+    (Left run (now (a .1 .1 .1 .0)) (now (a .1 .1 .1 .1 .1 .0)) (now (s .1 .1 .1 .0)) (now (s .1 .1 .1 .1 .1 .0)) r)
+    (Placed (now (a .1 .1 .1 .1 .0)) 0 (run .writes) (now (s .1 .1 .1 .1 .0)) (r .writes))
 amend-promises κs a r s w = refl
 
 pub job-keeps : {M : Type 1} → job-stated.statement M
@@ -120,8 +120,8 @@ show-keeps = show-met.met
 pub show-promises :
     (κs : Lfts 4) (a : ArgsD show.signature κs) (r : ResD show.signature κs) (s : AtExit show.ended κs) (w : World)
     → Exactly w (show-reads.ensures κs a tt r s w)
-      (Left (showRun (a .0) (now (a .1 .0)) (now (a .1 .1 .0))) (now (a .1 .1 .1 .0)) (now (a .1 .1 .1 .1 .0)) (now (s .1 .1 .1 .0))
-      (now (s .1 .1 .1 .1 .0)) r)
+    (Left (showRun (a .0) (now (a .1 .0)) (now (a .1 .1 .0))) (now (a .1 .1 .1 .0)) (now (a .1 .1 .1 .1 .0)) (now (s .1 .1 .1 .0))
+    (now (s .1 .1 .1 .1 .0)) r)
 show-promises κs a r s w = refl
 
 pub add-keeps : {M : Type 1} → add-stated.statement M
@@ -130,8 +130,8 @@ add-keeps = add-met.met
 pub add-promises :
     (κs : Lfts 4) (a : ArgsD add.signature κs) (r : ResD add.signature κs) (s : AtExit add.ended κs) (w : World)
     → Both w (add-reads.ensures κs a tt r s w)
-      (Placed (now (a .1 .1 .1 .1 .1 .0)) 0 (textSays (a .1 .0) (now (a .0)) (now (a .1 .1 .0))) (now (s .1 .1 .1 .1 .1 .0)) r)
-      (now (s .1 .1 .1 .1 .0) ≡ textAdds (a .1 .0) (now (a .1 .1 .0)) (a .1 .1 .1 .0) (now (a .1 .1 .1 .1 .0)))
+    (Placed (now (a .1 .1 .1 .1 .1 .0)) 0 (textSays (a .1 .0) (now (a .0)) (now (a .1 .1 .0))) (now (s .1 .1 .1 .1 .1 .0)) r)
+    (now (s .1 .1 .1 .1 .0) ≡ textAdds (a .1 .0) (now (a .1 .1 .0)) (a .1 .1 .1 .0) (now (a .1 .1 .1 .1 .0)))
 add-promises κs a r s w = refl
 
 pub make-keeps : {M : Type 1} → make-stated.statement M
@@ -140,7 +140,7 @@ make-keeps = make-met.met
 pub make-promises :
     (κs : Lfts 2) (a : ArgsD make.signature κs) (r : ResD make.signature κs) (s : AtExit make.ended κs) (w : World)
     → Exactly w (make-reads.ensures κs a tt r s w)
-      (Placed (now (a .1 .1 .0)) 0 (studyOf (a .0) (now (a .1 .0))) (now (s .1 .1 .0)) r)
+    (Placed (now (a .1 .1 .0)) 0 (studyOf (a .0) (now (a .1 .0))) (now (s .1 .1 .0)) r)
 make-promises κs a r s w = refl
 
 pub list-keeps : {M : Type 1} → list-stated.statement M
@@ -149,5 +149,5 @@ list-keeps = list-met.met
 pub list-promises :
     (κs : Lfts 3) (a : ArgsD list.signature κs) (r : ResD list.signature κs) (s : AtExit list.ended κs) (w : World)
     → Exactly w (list-reads.ensures κs a tt r s w)
-      (Left (listRun (a .0) (now (a .1 .0))) (now (a .1 .1 .0)) (now (a .1 .1 .1 .0)) (now (s .1 .1 .0)) (now (s .1 .1 .1 .0)) r)
+    (Left (listRun (a .0) (now (a .1 .0))) (now (a .1 .1 .0)) (now (a .1 .1 .1 .0)) (now (s .1 .1 .0)) (now (s .1 .1 .1 .0)) r)
 list-promises κs a r s w = refl
