@@ -8,7 +8,7 @@ abbrev pub openingMost : ℕ
 openingMost = wordMost + 2
 
 abbrev pub remarkMost : ℕ
-remarkMost = 64
+remarkMost = 128
 
 abbrev pub onlySaid : ℕ → Lengths
 onlySaid size = record { prints = 0; writes = 0; says = size }

@@ -17,8 +17,10 @@ pub enum Remark {
     Unread,
     Unwritten,
     NoSite,
+    NoName,
     NoEntry,
-    NotNumber,
+    IsStudy,
+    InTheWay,
     NoInput,
     NoOutput,
 }
@@ -102,8 +104,22 @@ fn put_remark(out: &mut [u8], at: usize, remark: Remark) -> usize
         Remark::Unread => text::put_bytes(out, at, b"cannot be read\n"),
         Remark::Unwritten => text::put_bytes(out, at, b"cannot be written\n"),
         Remark::NoSite => text::put_bytes(out, at, b"the study has no such site\n"),
+        Remark::NoName => text::put_bytes(
+            out,
+            at,
+            b"no movement, no approach and not the junction has this name\n",
+        ),
         Remark::NoEntry => text::put_bytes(out, at, b"no entry has this name there\n"),
-        Remark::NotNumber => text::put_bytes(out, at, b"a whole number is expected here\n"),
+        Remark::IsStudy => text::put_bytes(
+            out,
+            at,
+            b"this is a study file: add a site, counted from 1, or all\n",
+        ),
+        Remark::InTheWay => text::put_bytes(
+            out,
+            at,
+            b"there is such a file and it is no study file, so it stays as it is: name another\n",
+        ),
         Remark::NoInput => text::put_bytes(out, at, b"standard input cannot be read\n"),
         Remark::NoOutput => text::put_bytes(out, at, b"standard output cannot be written\n"),
     }

@@ -1,24 +1,18 @@
 -- What `icustudy` is asked to do, and what `icustudy show` gives: a site of a study as text, or what is said.
 use Prim.Native.Nat.{ℕ, _-_, min}
-use mathlib.Core.Bool.{Bool, true, false, cond, _&&_}
-use mathlib.Core.List.{List, [], _∷_, _++_}
+use mathlib.Core.Bool.{cond}
+use mathlib.Core.List.{List, [], _++_}
 use lib.Dec.{eqb, leb, ltb}
 use Rattle.text.specs.Text.{ascii}
 use Rattle.text_writer.specs.Writer.{junctionText}
 use Rattle.study.specs.Study.{siteLimit, siteEntries}
 use Rattle.program_words.specs.Words.{wordAt}
+use Rattle.program_wish.specs.Wish.{same}
 use Rattle.program_outcome.specs.declared.Input.{Input}
 use Rattle.program_outcome.specs.Outcome.{Outcome, printing, withFile}
 use Rattle.program_site.specs.Site.{sought, withSite}
 use Rattle.program_study.specs.declared.Job.{Job}
 use Rattle.program_study.specs.declared.Job.the-variants.{Make, Show, TooMany, Use}
-
--- whether two words are the same
-unfoldable pub same : List ℕ → List ℕ → Bool
-same [] [] = true
-same [] (other ∷ others) = false
-same (byte ∷ bytes) [] = false
-same (byte ∷ bytes) (other ∷ others) = eqb byte other && same bytes others
 
 -- the arguments before the first text: the program's name, the job's, and the study's
 abbrev pub beforeTexts : ℕ

@@ -2,7 +2,7 @@
 ghost use mathlib.Core.Path.{_≡_};
 ghost use Rattle.text.specs.Text.{Placed};
 ghost use Rattle.program_outcome.specs.Outcome.{Left};
-ghost use Rattle.program_study.specs.Run.{same, textsIn, jobOf, jobText, showAt, showRun};
+ghost use Rattle.program_study.specs.Run.{textsIn, jobOf, jobText, showAt, showRun};
 use layout::ENTRIES;
 use program_outcome::AREA_BYTES;
 use program_outcome::Input;
@@ -35,17 +35,11 @@ pub enum Job {
     Use,
 }
 
-fn is_same(word: &[u8], other: &[u8]) -> bool
-    ensures { λ r. ⌜ r ≡ same (now (word .entry)) (now (other .entry)) ⌝ }
-{
-    check::same(word, other)
-}
-
 // What is to be done, by the number of arguments and the job's name.
 pub fn job_of(count: usize, word: &[u8]) -> Job
     ensures { λ r. ⌜ r ≡ jobOf count (now (word .entry)) ⌝ }
 {
-    if is_same(word, b"make") {
+    if program_wish::is_same(word, b"make") {
         if count <= BEFORE_TEXTS {
             return Job::Use;
         }
@@ -54,7 +48,7 @@ pub fn job_of(count: usize, word: &[u8]) -> Job
         }
         return Job::Make;
     }
-    if is_same(word, b"show") {
+    if program_wish::is_same(word, b"show") {
         if count == TO_SHOW {
             return Job::Show;
         }

@@ -12,7 +12,10 @@ put-remark-spec =
     tie.close
     (tie.spec (search needs) (search needs) (search needs) (search needs) (search needs) (search needs) (search needs)
     (search needs) (search needs) (search needs) (search needs) (search needs) (search needs) (search needs) (search needs)
-    (search needs) (search needs) (search needs) (search needs) (search needs) (search needs) (search needs)
+    (search needs) (search needs) (search needs) (search needs) (search needs) (search needs) (search needs) (search needs)
+    (search needs) (search needs) (search needs) (search needs) (search needs)
+    (λ c. (search (placed-as remarkText), search needs)) (search needs)
+    (λ c. (search (placed-as remarkText), search needs)) (search needs)
     (λ c. (search (placed-as remarkText), search needs)) (search needs)
     (λ c. (search (placed-as remarkText), search needs)) (search needs)
     (λ c. (search (placed-as remarkText), search needs)) (search needs)

@@ -1,7 +1,7 @@
-use Rattle.program_study.proofs.Laws.{told-same}
+use Rattle.program_wish.proofs.Laws.{told-same}
 use borrow.Author.Needs.{needs}
-use Rattle.program_study.proofs.is_same.Statement.{statement}
-use Rattle.program_study.proofs.is_same.Tie as tie
+use Rattle.program_wish.proofs.is_same.Statement.{statement}
+use Rattle.program_wish.proofs.is_same.Tie as tie
 
 returns : tie.Need-returns
 returns c = told-same _ _ _ (c .same .ensures .0) (c .same .ensures .1)

@@ -1,4 +1,4 @@
--- Laws of words that are the same, and of each way that the job can come out.
+-- Laws of words that are the same.
 use Prim.Native.Nat.{ℕ}
 use mathlib.Core.Path.{_≡_, refl, sym, _∙_}
 use mathlib.Core.Bool.{Bool, true, false, _&&_}
@@ -6,7 +6,7 @@ use mathlib.Core.List.{List, [], _∷_}
 use lib.Dec.{eqb}
 use borrow.Author.Tests.{eq-eqb, eqb-true}
 use native.Mathlib.Omega.{arith}
-use Rattle.program_study.specs.Run.{same}
+use Rattle.program_wish.specs.Wish.{same}
 
 -- a word is the same as itself, and as no other
 itself : (word : List ℕ) → same word word ≡ true
