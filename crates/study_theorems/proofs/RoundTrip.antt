@@ -25,7 +25,7 @@ use Rattle.study_format.specs.Format.{judgement, countOf, siteAnswer, siteBlock
 use Rattle.study_format.specs.Format.{siteEntriesAnswer}
 use Rattle.study_format.specs.Working.{Modest}
 use Rattle.study_format.proofs.Laws.{WellLaidOut, accepted, laid-out, places-fit}
-use Rattle.study_writer.proofs.Laws.{whole-sites}
+use Rattle.study_writer.proofs.Laws.{whole-sites, writable}
 
 -- bytes begin with others where those stand at their front
 
@@ -49,26 +49,7 @@ pub record ReadBack (f : Format) (entries bytes : List ℕ) : Type 0 where
   pub site : (j : ℕ) → j < sitesIn f entries
       → (siteAnswer f bytes j ≡ Accepted) × (siteEntries f bytes j ≡ take (f .entries) (drop (f .entries * j) entries))
 
--- what may be written: whole sites, not too many, with room for the file
-pub record Writable (f : Format) (entries : List ℕ) (room : ℕ) : Type 0 where
-  pub sized : length entries % f .entries ≡ 0
-  pub few : sitesIn f entries ≤ f .most
-  pub fits : fileBytes f (sitesIn f entries) ≤ room
-
 module _ (f : Format) where
-  pub writable : (entries : List ℕ) (room : ℕ) → writeAnswer f entries room ≡ Accepted → Writable f entries room
-  writable entries room e =
-      let odd = not (eqb (length entries % f .entries) 0) in
-      let many = ltb (f .most) (sitesIn f entries) in
-      let short = ltb room (fileBytes f (sitesIn f entries)) in
-      let first = both-accepted (refuse-if odd Size 0) (refuse-if many File 0 then refuse-if short File roomPlace) e in
-      let rest = both-accepted (refuse-if many File 0) (refuse-if short File roomPlace) (first .1) in
-      record {
-        sized = eqb-true _ _ (not-false (eqb (length entries % f .entries) 0) (not-refused odd Size 0 (first .0)));
-        few = ltb-false _ _ (not-refused many File 0 (rest .0));
-        fits = ltb-false _ _ (not-refused short File roomPlace (rest .1));
-      }
-
   -- entry i of a site's block stands in the file
   entry-at : (file : List ℕ) (site i : ℕ) → i < f .entries
       → numberAt (siteBlock f file site) (numberBytes * i) ≡ numberAt file (blockPlace f (sitesOf file) site + numberBytes * i)
@@ -186,7 +167,7 @@ module _ (f : Format) (ok : Modest f) where
   written-read entries area small e =
       let w = writable f entries (length area) e in
       let k = sitesIn f entries in
-      let sites = whole-sites f entries (w .sized) in
+      let sites = whole-sites f entries (w .whole) in
       let l : length (fileOf f entries) ≡ fileBytes f k =
       ap length (file-is entries k sites (w .few) small) ∙ length-file entries k sites (w .few) small in
       rw (front-over area (fileOf f entries) (fileBytes f k) l) (file-back entries k sites (w .few) small)

@@ -139,7 +139,9 @@ front-digit : (most number : ℕ) → 0 < number → number < 10 ^ most → 48 <
 front-digit zero number h fits = absurd (omega arith)
 front-digit (suc most) number h fits =
     ⊎-elim (λ one. rw (digits-one most number one) (omega arith))
-    (λ more. rw (digits-more most number more) (first-of (digits most (number / 10)) _ (front-digit most (number / 10) (omega arith) (fewer most number fits))))
+    (λ more.
+    let front = front-digit most (number / 10) (omega arith) (fewer most number fits) in
+    rw (digits-more most number more) (first-of (digits most (number / 10)) _ front))
     (one-or-more number)
 
 pub decimal-front : (number : ℕ) → 0 < number → number < 10 ^ digitMost → 48 < getD (decimal number) 0 0

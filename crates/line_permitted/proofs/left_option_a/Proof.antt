@@ -56,7 +56,9 @@ option-a-of-requires c κs =
     ((lane-most (c .before .before), lane .serves, (λ some. omega (arith, lane .least)), lane .most), (s .pre .0, omega arith))
 
 returns-2 : tie.Need-returns-2
-returns-2 c = rw (c .option-a-of .ensures, c .before .flow-a .ensures, c .before .before .equivalent-of .ensures, c .before .before .before .share-out .ensures)
+returns-2 c =
+    let flow = c .before in
+    rw (c .option-a-of .ensures, flow .flow-a .ensures, flow .before .equivalent-of .ensures, flow .before .before .share-out .ensures)
 
 pub left-option-a-spec : {M : Type 1} → statement M
 left-option-a-spec =

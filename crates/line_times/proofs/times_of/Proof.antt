@@ -20,7 +20,8 @@ through d =
     let s = d .before .before in
     rw (s .pre .1, s .pre .2, s .pre .3) at (d .part-time2 .ensures)
 
-right : (d : tie.After-part-time3) → d .part-time3 .result .0 ≡ reference (d .before .before .before .args .s) Right (d .before .before .before .args .cycle .0)
+right : (d : tie.After-part-time3)
+    → d .part-time3 .result .0 ≡ reference (d .before .before .before .args .s) Right (d .before .before .before .args .cycle .0)
 unfolding reference
 right d =
     let s = d .before .before .before in

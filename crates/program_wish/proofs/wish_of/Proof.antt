@@ -1,3 +1,4 @@
+-- `program_wish::wish_of`. The definition asks the same tests: each way through them is one of its cases.
 use Rattle.program_wish.specs.Wish.{wishOf}
 use Rattle.text.specs.Text.{ascii}
 use mathlib.Core.Path.{sym, _∙_}
@@ -18,13 +19,15 @@ returns-3 : tie.Need-returns-3
 unfolding wishOf ascii
 returns-3 c =
     let first = c .before .before .before in
-    rw (eq-eqb _ _ (first .before .before .before .if1 .left), sym (first .before .is-same .ensures) ∙ first .if2 .left, sym (c .before .is-same2 .ensures) ∙ c .if3 .taken)
+    let no-help = sym (first .before .is-same .ensures) ∙ first .if2 .left in
+    rw (eq-eqb _ _ (first .before .before .before .if1 .left), no-help, sym (c .before .is-same2 .ensures) ∙ c .if3 .taken)
 
 returns-4 : tie.Need-returns-4
 unfolding wishOf ascii
 returns-4 c =
     let first = c .before .before .before in
-    rw (eq-eqb _ _ (first .before .before .before .if1 .left), sym (first .before .is-same .ensures) ∙ first .if2 .left, sym (c .before .is-same2 .ensures) ∙ c .if3 .left)
+    let no-help = sym (first .before .is-same .ensures) ∙ first .if2 .left in
+    rw (eq-eqb _ _ (first .before .before .before .if1 .left), no-help, sym (c .before .is-same2 .ensures) ∙ c .if3 .left)
 
 pub wish-of-spec : {M : Type 1} → statement M
 wish-of-spec = tie.close (tie.spec returns (search needs) (search needs) returns-2 (search needs) (search needs) returns-3 returns-4)
