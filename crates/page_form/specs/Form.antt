@@ -79,9 +79,9 @@ rows =
     "J  ICU                         51 %" ∷
     "J  level of service            52 A" ∷
     "no beside the lines          book :" ∷
-    "23 volume of lefts alone       25 v" ∷
-    "23 equivalents of lefts alone  27 f" ∷
-    "23 saturation of lefts alone   29 v" ∷
+    "23 own volume of left lane     25 v" ∷
+    "23 own left equivalents        27 f" ∷
+    "23 own saturation A            29 v" ∷
     "R  cross through               47 s" ∷
     "R  oncoming left               49 s" ∷
     []

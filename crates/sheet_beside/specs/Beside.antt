@@ -6,7 +6,7 @@ use lib.Dec.{eqb}
 use lib.ListN.{getD}
 use Rattle.units.specs.Rounding.{up}
 use Rattle.units.specs.Unit.{whole}
-use Rattle.layout.specs.Entries.{EB, WB, NB, SB, freeNo, approachPlace}
+use Rattle.layout.specs.Entries.{approachCount, EB, WB, NB, SB, freeNo, approachPlace}
 use Rattle.layout.specs.Sheet.{linesOf, pairCount, pickCell}
 use Rattle.kinds.specs.declared.Group.the-variants.{Left}
 use Rattle.answers.specs.Answers.{left-by}
@@ -24,12 +24,16 @@ ownLane s o CL =
     cond (eqb (volume s Left) 0) (0 ∷ 0 ∷ 0 ∷ [])
     (up (volume s Left) (n s Left) ∷ equivalent whole (leftShare o) CL ∷ leftA s o CL ∷ [])
 
+-- a pair is two approaches
+abbrev pub inPair : ℕ
+inPair = approachCount / pairCount
+
 -- line k of approach a, and the pick of its pair, among a sheet's cells
 abbrev pub lineIn : List ℕ → ℕ → ℕ → ℕ
 lineIn cells a k = getD cells (linesOf a + (k - 1)) 0
 
 abbrev pub pickIn : List ℕ → ℕ → ℕ
-pickIn cells a = getD cells (pickCell (a / pairCount)) 0
+pickIn cells a = getD cells (pickCell (a / inPair)) 0
 
 -- "Each goes by the pick of its own pair: protected, lines 17 and 16; permitted, 26 and 0; split, 28 and 28."
 unfoldable pub throughIn : List ℕ → ℕ → ℕ

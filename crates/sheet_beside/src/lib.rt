@@ -24,6 +24,9 @@ use layout::SB;
 use layout::WB;
 use procedure::Approach;
 
+// A pair is two approaches.
+const IN_PAIR: usize = layout::APPROACHES / layout::PAIRS;
+
 // Of the left group's own lane: its volume, its equivalents and its flow.
 const LANE_NUMBERS: usize = 3;
 
@@ -65,7 +68,7 @@ fn pick_in(cells: &[u32], a: usize) -> u32
     requires { ⌜ (length (now cells) ≡ sheetCount) × (a < approachCount) ⌝ }
     ensures { λ r. ⌜ r ≡ pickIn (now (cells .entry)) a ⌝ }
 {
-    cells[layout::PAIRS_FROM + layout::PAIR_CELLS * (a / layout::PAIRS) + layout::PICK]
+    cells[layout::PAIRS_FROM + layout::PAIR_CELLS * (a / IN_PAIR) + layout::PICK]
 }
 
 // By a pick: protected, permitted, split.
