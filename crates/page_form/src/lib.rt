@@ -133,7 +133,7 @@ impl Section {
         columns: layout::APPROACHES,
     };
 
-    pub const PAIRS: Section = Section {
+    const PAIRS: Section = Section {
         row: Section::LINES.row + Section::LINES.step + HEADING,
         cell: layout::PAIRS_FROM,
         step: layout::PAIR_CELLS,
