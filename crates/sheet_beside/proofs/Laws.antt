@@ -13,15 +13,18 @@ use Rattle.units.specs.Rounding.{up}
 use Rattle.units.specs.Unit.{whole}
 use Rattle.kinds.specs.declared.Group.the-variants.{Left}
 use Rattle.answers.specs.Answers.{left-by}
+use Rattle.answers.specs.declared.Answer.the-variants.{Accepted}
 use Rattle.entries.specs.Layout.{cycle}
 use Rattle.entries.specs.Judging.{judged}
+use Rattle.entries.proofs.Laws.{accepted-count}
 use Rattle.procedure.specs.declared.Approach.{Approach}
 use Rattle.procedure.specs.Approach.{n, readApproach}
 use Rattle.procedure.specs.Lines.{volume, leftShare, equivalent, leftA}
 use Rattle.procedure.specs.Sheet.{sheet}
 use Rattle.sheet_cells.specs.Cells.{sheetAnswer}
+use Rattle.sheet_cells.proofs.Cells.{sheet-length}
 use Rattle.sheet.specs.Fill.{fillAnswer, filled}
-use Rattle.sheet_beside.specs.Beside.{ownLane, lineIn, throughIn, leftIn, added, besideAt, besideOf, beside}
+use Rattle.sheet_beside.specs.Beside.{ownLane, lineIn, throughIn, leftIn, added, besideAt, besideOf, beside, filledBeside}
 use Rattle.sheet_beside.specs.Working.{numbers, allCount}
 
 -- lists of one length, whichever is chosen
@@ -72,6 +75,11 @@ all-length e sized =
       beside-length e cells NB SB EB,
       beside-length e cells SB NB WB,
     )
+
+-- a list that is filled keeps its length
+pub filled-length : (e d : List ℕ) → judged e ≡ Accepted → length (filledBeside e d) ≡ allCount
+unfolding filledBeside
+filled-length e d good = rw good (all-length e (sheet-length e (accepted-count e good)))
 
 -- filling a sheet of the right size answers as the entries are judged
 module _ (e d : List ℕ) (sized : length d ≡ sheetCount) where
