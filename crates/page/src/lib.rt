@@ -7,7 +7,6 @@ ghost use Rattle.page_form.specs.Form.{rowCount};
 ghost use Rattle.page_fields.specs.Fields.{fieldWidth};
 ghost use Rattle.page.specs.Worksheet.{starOver, starredAt, fieldByte, rowWidth, inRow, rowByte, sheetBytes, sheetText};
 ghost use Rattle.page.specs.Worksheet.{shownCell, changeField, changeByte, isListed, changeText};
-
 use page_stars::value_of;
 
 // A row is a title, a field for each approach and a line feed.
@@ -60,7 +59,12 @@ fn field_byte(cells: &[u32], row: usize, column: usize, p: usize) -> u8
         return page_fields::field_text(page_fields::column_field(section.columns, column), p);
     }
     let cell = page_form::cell_in(row, column);
-    star_byte(cells, cell, p, page_fields::shown(unit, value_of(cells, cell), p))
+    star_byte(
+        cells,
+        cell,
+        p,
+        page_fields::shown(unit, value_of(cells, cell), p),
+    )
 }
 
 // Byte i of a row: of its title, of a field, or the line feed.

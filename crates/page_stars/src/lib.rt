@@ -141,7 +141,11 @@ pub fn is_starred(cells: &[u32], cell: usize) -> bool
     }
     if cell < layout::LAST_FROM {
         let total = cell - layout::PAIRS_FROM;
-        return is_picked(cells, total / layout::PAIR_CELLS, total % layout::PAIR_CELLS);
+        return is_picked(
+            cells,
+            total / layout::PAIR_CELLS,
+            total % layout::PAIR_CELLS,
+        );
     }
     cell == deciding_cell(cells)
 }

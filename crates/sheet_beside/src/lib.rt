@@ -121,12 +121,7 @@ fn added_in(cells: &[u32], a: usize, o: usize, c: usize) -> [u32; ADDED_NUMBERS]
     [through_in(cells, c), left_in(cells, o)]
 }
 
-fn put_numbers(
-    all: &mut [u32],
-    at: usize,
-    lane: [u32; LANE_NUMBERS],
-    added: [u32; ADDED_NUMBERS],
-)
+fn put_numbers(all: &mut [u32], at: usize, lane: [u32; LANE_NUMBERS], added: [u32; ADDED_NUMBERS])
     requires { ⌜ at + numbers ≤ length (now all) ⌝ }
     ensures { λ _. ⌜ now (all .exit) ≡ over (now (all .entry)) at (lane ++ added) ⌝ }
 {
