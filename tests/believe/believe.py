@@ -32,6 +32,7 @@ PUBLIC = {
     "text_reader": ["read"],
     "text_writer": ["write"],
     "page": ["print", "changes"],
+    "sheet_beside": ["fill"],
     "text_refusals": ["say_answer", "say_reading", "say_trouble"],
     "text_names": ["entry_named"],
     "program_outcome": ["front", "say"],

@@ -315,12 +315,19 @@ def a_through(leg):
     return max(left_lane, serve(leg, leg.line[2], leg.line[6]))
 
 
+def own_lane(leg):
+    """L's own vLL, E and sA: every vehicle in the lane turns."""
+    if leg.line[1] == 0:
+        return [0, 0, 0]
+    e = equivalents(leg, 10000)
+    return [up(leg.line[1], leg.n[L]), e, left_lane_flow(leg.line[5], leg.n[L], 10000, e)]
+
+
 def a_left(leg):
-    """L's value in option A: every vehicle in the lane turns, and no pedestrians."""
+    """L's value in option A, without pedestrians."""
     if leg.line[1] == 0:
         return 0
-    v_ll = up(leg.line[1], leg.n[L])
-    s_a = left_lane_flow(leg.line[5], leg.n[L], 10000, equivalents(leg, 10000))
+    v_ll, _, s_a = own_lane(leg)
     return max(serve(leg, v_ll, s_a), serve(leg, leg.line[1], leg.line[5]))
 
 
@@ -446,16 +453,19 @@ def as_left(leg, pick):
     return (leg.line[16], 0, leg.line[28])[pick]
 
 
+def waited_for(legs, picks, a):
+    """The cross through and the oncoming left that approach a's right turns must wait for."""
+    if legs[a].line[3] == 0 or legs[a].free:
+        return [0, 0]
+    cross, facing = CROSS[a], a ^ 1
+    return [as_through(legs[cross], picks[cross // 2]), as_left(legs[facing], picks[facing // 2])]
+
+
 def right_total(legs, picks, a):
     """Total of approach a's right turns with what they must wait for."""
-    leg = legs[a]
-    if leg.line[3] == 0:
+    if legs[a].line[3] == 0:
         return 0
-    if leg.free:
-        return leg.line[18]
-    cross, facing = CROSS[a], a ^ 1
-    return (leg.line[18] + as_through(legs[cross], picks[cross // 2])
-            + as_left(legs[facing], picks[facing // 2]))
+    return legs[a].line[18] + sum(waited_for(legs, picks, a))
 
 
 def letter(icu):
@@ -497,6 +507,13 @@ def fill(entries):
     for leg in legs:
         sheet += leg.line[1:]
     return sheet + pairs[0] + pairs[1] + last_eight(legs, pairs, entries[80])
+
+
+def beside(entries):
+    """What is worked beside the sheet: five numbers of each approach, of acceptable entries."""
+    legs = worked_legs(entries)
+    picks = [pair_cells(legs[0], legs[1])[3], pair_cells(legs[2], legs[3])[3]]
+    return [x for a in range(4) for x in own_lane(legs[a]) + waited_for(legs, picks, a)]
 
 
 def cell(a, k):

@@ -16,7 +16,7 @@ sys.dont_write_bytecode = True  # leave no cache beside the sources
 import icu2003
 import junctions
 import table
-from icu2003 import BLANK, amend, cell, decay, fill, judge, letter, listing, reach
+from icu2003 import BLANK, amend, beside, cell, decay, fill, judge, letter, listing, reach
 
 EB, WB, NB, SB = range(4)
 counts = {"passed": 0, "failed": 0}
@@ -80,6 +80,8 @@ def check_k3_to_k10():
     leg = icu2003.worked_legs(NAMED["K9"])[EB]
     check("K9 E", icu2003.equivalents(leg, 10000), 300000)
     check("K9 sA", icu2003.left_lane_flow(leg.line[5], 1, 10000, 300000), 60)
+    check("K9 beside EB", beside(NAMED["K9"])[:5], [59, 300000, 60, 0, 0])
+    check("K2 beside", beside(NAMED["K2"]), [0] * 20)
 
 
 def check_listing():
@@ -339,7 +341,8 @@ def again_permitted_split(x, o):
     """Lines 19 to 28."""
     p_l = Fraction(x["vL"] - x["vCL"], x["vCT"]) if x["vCT"] else 0
     x["vLL"], x["pLL"], x["EL"], x["sA"], a_t = again_left_lane(x, o, "T", p_l)
-    a_l = again_left_lane(x, o, "L", 1)[4]
+    own = again_left_lane(x, o, "L", 1)
+    a_l, x["own"] = own[4], [own[0], own[2] * 10000, own[3]]
     if not x["vCL"] and not x["vCT"]:
         x["A"] = x["B"] = x["perm"] = x["adjPerm"] = x["split"] = x["adjSplit"] = Fraction(0)
         return
@@ -365,16 +368,22 @@ def again_pair(x, o):
     return totals, order[pick]
 
 
-def again_right(compass, picked, name):
-    """Total of a right turn; what it waits for is written out by name."""
+def again_waits(compass, picked, name):
+    """What a right turn waits for, written out by name."""
     cross, facing = {"EB": ("SB", "WB"), "WB": ("NB", "EB"),
                      "NB": ("EB", "SB"), "SB": ("WB", "NB")}[name]
     x, c, f = compass[name], compass[cross], compass[facing]
-    if not x["vCR"]:
-        return Fraction(0)
+    if not x["vCR"] or x["free"]:
+        return [Fraction(0), Fraction(0)]
     through = {"protected": c["adjT"], "permitted": c["adjPerm"], "split": c["adjSplit"]}
     left = {"protected": f["adjL"], "permitted": 0, "split": f["adjSplit"]}
-    return x["adjR"] + (0 if x["free"] else through[picked[cross]] + left[picked[facing]])
+    return [through[picked[cross]], left[picked[facing]]]
+
+
+def again_right(compass, picked, name):
+    """Total of a right turn."""
+    x = compass[name]
+    return x["adjR"] + sum(again_waits(compass, picked, name)) if x["vCR"] else Fraction(0)
 
 
 def again_cells(x):
@@ -388,7 +397,7 @@ def again_cells(x):
 
 
 def again(entries):
-    """The 209 cells, spelled again."""
+    """The 209 cells and what stands beside them, spelled again."""
     names = ("EB", "WB", "NB", "SB")
     compass = {name: again_read(entries, a) for a, name in enumerate(names)}
     for x in compass.values():
@@ -410,19 +419,42 @@ def again(entries):
     for totals, pick in ((ew, ew_pick), (ns, ns_pick)):
         cells += [BLANK if t is None else t * 1000 for t in totals.values()]
         cells.append(list(totals).index(pick))
-    return cells + [t * 1000 for t in rights + [combined, required, icu]] + [grade]
+    cells += [t * 1000 for t in rights + [combined, required, icu]] + [grade]
+    for name in names:
+        cells += compass[name]["own"] + [t * 1000 for t in again_waits(compass, picked, name)]
+    return cells
+
+
+def check_stars(what, sheet):
+    """What has a star makes the number that it decides, and nothing else of its kind has one."""
+    starred = table.stars(sheet)
+    among = lambda cells: [sheet[i] for i in cells if i in starred]
+    for one, other in ((EB, WB), (NB, SB)):
+        four = [icu2003.cell(a, k) for a in (one, other) for k in (16, 17)]
+        total = sheet[193 + 2 * one]
+        check(what + ", sum", sum(among(four)) if among(four) else BLANK, total)
+        check(what + ", a left and the other's through", [i in starred for i in four][:2],
+              [i in starred for i in four][:1:-1] if total != BLANK else [False, False])
+        check(what + ", total", among(range(193 + 2 * one, 196 + 2 * one)), [min(sheet[193 + 2 * one:196 + 2 * one])])
+    for a in range(4):
+        lesser = sheet[icu2003.cell(a, 25)]
+        check(what + ", option", among([icu2003.cell(a, 23), icu2003.cell(a, 24)]), [lesser] if lesser not in (0, BLANK) else [])
+    check(what + ", last", among(range(201, 206)), [sheet[206]])
+    others = set(range(209)) - {icu2003.cell(a, k) for a in range(4) for k in (16, 17, 23, 24)} - set(range(193, 206))
+    check(what + ", no other", starred & others, set())
 
 
 def check_again(rounds):
     rng = random.Random(2003)
     for name, entries in junctions.all_junctions():
         if judge(entries) == (0, 0):
-            check("spelled again: " + name, fill(entries), again(entries))
+            check("spelled again: " + name, fill(entries) + beside(entries), again(entries))
     for i in range(rounds):
         entries = random_entries(rng)
         check("acceptable", judge(entries), (0, 0))
         sheet = fill(entries)
-        check("spelled again, random %d" % i, sheet, again(entries))
+        check("spelled again, random %d" % i, sheet + beside(entries), again(entries))
+        check_stars("stars, random %d" % i, sheet)
         check("cells fit 32 bits", all(0 <= x <= BLANK for x in sheet), True)
 
 

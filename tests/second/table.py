@@ -220,6 +220,10 @@ PAIR_ROWS = [("P", "protected", "40", "s"), ("P", "permitted", "41", "s"), ("P",
 LAST_ROWS = [("J", "combined", "44", "s"), ("J", "required", "51", "s"), ("J", "ICU", "51", "%"), ("J", "level of service", "52", "A")]
 
 
+BESIDE_ROWS = [("23", "own volume of left lane", "25", "v"), ("23", "own left equivalents", "27", "f"), ("23", "own saturation A", "29", "v"),
+               ("R", "cross through", "47", "s"), ("R", "oncoming left", "49", "s")]
+
+
 def title(row):
     return "%-2s %-24s %5s %s" % row
 
@@ -257,23 +261,43 @@ def cell_rows():
     rows += [(r, four, [icu2003.cell(a, k) for a in range(4)]) for k, r in enumerate(LINE_ROWS, 1)]
     rows += [(r, pair, [193 + i, 197 + i]) for i, r in enumerate(PAIR_ROWS)]
     rows += [(("R", "right turns", "45-50", "s"), four, [201, 202, 203, 204])]
-    return rows + [(r, one, [205 + i]) for i, r in enumerate(LAST_ROWS)]
+    rows += [(r, one, [205 + i]) for i, r in enumerate(LAST_ROWS)]
+    return rows + [(r, four, [209 + i + 5 * a for a in range(4)]) for i, r in enumerate(BESIDE_ROWS)]
 
 
-HEADINGS = {0: "entry", 21: "line", 49: "pair", 53: "junction"}
+HEADINGS = {0: "entry", 21: "line", 49: "pair", 53: "junction", 58: "beside the lines"}
 
 
-def sheet_text(cells):
-    """The whole worksheet."""
+def stars(cells):
+    """The cells that decide: the larger sum of a pair, the option of an approach, the picked total, the largest of the last."""
+    line = lambda a, k: cells[icu2003.cell(a, k)]
+    found = set()
+    for q, (one, other) in enumerate(((0, 1), (2, 3))):
+        if cells[193 + 4 * q] != icu2003.BLANK:
+            left, through = max(((one, other), (other, one)), key=lambda way: line(way[0], 16) + line(way[1], 17))
+            found |= {icu2003.cell(left, 16), icu2003.cell(through, 17)}
+        found.add(193 + 4 * q + cells[196 + 4 * q])
+    for a in range(4):
+        options = [(line(a, k), k) for k in (23, 24) if line(a, k) != icu2003.BLANK]
+        if options and line(a, 1) + line(a, 2) > 0:
+            found.add(icu2003.cell(a, min(options)[1]))
+    rights, combined = cells[201:205], cells[205]
+    found.add(201 + rights.index(max(rights)) if max(rights) > combined else 205)
+    return found
+
+
+def sheet_text(sheet):
+    """The whole worksheet of a filled sheet, with what stands beside it."""
+    cells = sheet + icu2003.beside(sheet[:81])
+    starred = stars(sheet)
     out = []
     for at, (row, columns, where) in enumerate(cell_rows()):
         if at in HEADINGS:
             out.append(printed(("no", HEADINGS[at], "book", ":"), columns))
         fields = ["%11s" % shown(row[3], cells[i]) for i in where]
-        if row in PAIR_ROWS[:3]:
-            for k in (0, 1):
-                if cells[196 + 4 * k] == PAIR_ROWS.index(row) and fields[k][1] == " ":
-                    fields[k] = fields[k][0] + "*" + fields[k][2:]
+        for k, i in enumerate(where):
+            if i in starred and fields[k][1] == " ":
+                fields[k] = fields[k][0] + "*" + fields[k][2:]
         out.append(printed(row, fields))
     return "".join(out)
 

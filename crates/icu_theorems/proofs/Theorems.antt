@@ -40,6 +40,7 @@ use Rattle.text_reader.specs.declared.Reading.{Reading}
 use Rattle.text_reader.specs.declared.Reading.the-variants.{Read, Misread, Refused as NotAccepted}
 use Rattle.text_writer.specs.Writer.{junctionText}
 use Rattle.text_theorems.proofs.RoundTrip as texts
+use Rattle.page_form.specs.Form.{shownCount}
 use Rattle.page_form.proofs.Places.{OnPage, on-page}
 use Rattle.icu.specs.declared.IcuAnswer.{IcuAnswer}
 use Rattle.icu.specs.Calls.{fillAllows, amendAllows, siteAllows, writeAllows, listAllows, checkAllows, countAllows, Allowed}
@@ -209,8 +210,8 @@ pub left-as-text :
     → keptUnlessRead (reading (junctionText e)) (parsed (junctionText e) .entries) old ≡ e
 left-as-text = texts.left-back
 
--- Every cell of a sheet stands on the printed page, in the row and the column that a list of changes tells of it.
-pub on-the-page : (cell : ℕ) → cell < sheetCount → OnPage cell
+-- Every cell of a sheet, and every number beside it, stands on the printed page, in the row and the column that a list of changes tells of it.
+pub on-the-page : (cell : ℕ) → cell < shownCount → OnPage cell
 on-the-page = on-page
 
 -- A text that is not read alters nothing.

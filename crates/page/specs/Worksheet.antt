@@ -7,8 +7,9 @@ use lib.Dec.{eqb, leb, ltb}
 use Rattle.lists.specs.Lists.{table}
 use Rattle.text.specs.Text.{ascii}
 use Rattle.layout.specs.Entries.{approachCount}
-use Rattle.layout.specs.Sheet.{pickNo, pickCell, icuCell, sheetCount}
-use Rattle.page_form.specs.Form.{titleWidth, titleByte, unitOf, pairs, rowCount, sectionAt, sectionOf, cellIn, rowOf, columnOf}
+use Rattle.layout.specs.Sheet.{icuCell, sheetCount}
+use Rattle.page_form.specs.Form.{titleWidth, titleByte, unitOf, rowCount, sectionAt, sectionOf, cellIn, rowOf, columnOf}
+use Rattle.page_stars.specs.Stars.{starred}
 use Rattle.page_fields.specs.Fields.{fieldWidth, lastPlace, space, pick, heading, fieldText, columnField, shown}
 
 abbrev pub lineFeed : ℕ
@@ -27,11 +28,9 @@ rowWidth = rowEnd + 1
 abbrev pub starPlace : ℕ
 starPlace = lastPlace - 1
 
--- the total that is picked has a star at the left of its field, where that place is blank
-unfoldable pub starred : List ℕ → ℕ → ℕ → ℕ → Bool
-starred cells row column p =
-    eqb p starPlace && leb (pairs .row) row && ltb row (pairs .row + pickNo)
-    && eqb (getD cells (pickCell column) 0) (row - pairs .row)
+-- a number that decides has a star at the left of its field, where that place is blank
+abbrev pub starredAt : List ℕ → ℕ → ℕ → Bool
+starredAt cells cell p = eqb p starPlace && starred cells cell
 
 abbrev pub starOver : Bool → ℕ → ℕ
 starOver star byte = cond (star && eqb byte space) pick byte
@@ -40,7 +39,7 @@ unfoldable pub fieldByte : List ℕ → ℕ → ℕ → ℕ → ℕ
 fieldByte cells row column p =
     cond (leb (sectionAt row .columns) column) space
     (cond (eqb (unitOf row) heading) (fieldText (columnField (sectionAt row .columns) column) p)
-    (starOver (starred cells row column p) (shown (unitOf row) (getD cells (cellIn row column) 0) p)))
+    (starOver (starredAt cells (cellIn row column) p) (shown (unitOf row) (getD cells (cellIn row column) 0) p)))
 
 -- the sheet ----------------------------------------------------------------------------------------------------------
 

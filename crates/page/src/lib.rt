@@ -1,13 +1,13 @@
 // A sheet as a printed worksheet, and what an amendment changed, byte by byte.
 ghost use mathlib.Core.Path.{_≡_};
 ghost use Prim.Native.Nat.{_+_, _≤_, _<_};
-ghost use lib.ListN.{length, getD};
+ghost use lib.ListN.{length};
 ghost use Rattle.lists.specs.Lists.{table, over};
-ghost use Rattle.layout.specs.Entries.{approachCount};
 ghost use Rattle.page_form.specs.Form.{rowCount};
 ghost use Rattle.page_fields.specs.Fields.{fieldWidth};
-ghost use Rattle.page.specs.Worksheet.{starOver, starred, fieldByte, rowWidth, inRow, rowByte, sheetBytes, sheetText};
+ghost use Rattle.page.specs.Worksheet.{starOver, starredAt, fieldByte, rowWidth, inRow, rowByte, sheetBytes, sheetText};
 ghost use Rattle.page.specs.Worksheet.{shownCell, changeField, changeByte, isListed, changeText};
+use page_stars::value_of;
 
 // A row is a title, a field for each approach and a line feed.
 const ROW_END: usize = page_form::TITLE_WIDTH + page_fields::FIELD_WIDTH * layout::APPROACHES;
@@ -25,37 +25,22 @@ const CHANGE_HEAD: [u8; ROW_WIDTH] =
 // Before the star stands a blank, which parts its field from the one at its left.
 const STAR_PLACE: usize = page_fields::LAST_PLACE - 1;
 
-// The totals of a pair stand from this row on.
-const TOTALS_FROM: usize = page_form::Section::PAIRS.row;
-
-// What a cell holds; 0 past the list.
-fn value_of(cells: &[u32], cell: usize) -> u32
-    ensures { λ r. ⌜ r ≡ getD (now (cells .entry)) cell 0 ⌝ }
-{
-    if cell < cells.len() {
-        return cells[cell];
-    }
-    0
-}
-
-// Whether the star of the picked total stands there.
-fn is_starred(cells: &[u32], row: usize, column: usize, p: usize) -> bool
-    requires { ⌜ column < approachCount ⌝ }
-    ensures { λ r. ⌜ r ≡ starred (now (cells .entry)) row column p ⌝ }
-{
-    if p == STAR_PLACE && TOTALS_FROM <= row && row < TOTALS_FROM + layout::PICK {
-        let pick = layout::PAIRS_FROM + layout::PAIR_CELLS * column + layout::PICK;
-        return value_of(cells, pick) as usize == row - TOTALS_FROM;
-    }
-    false
-}
-
 // The star goes over a blank only.
 fn star_over(star: bool, byte: u8) -> u8
     ensures { λ r. ⌜ r ≡ starOver star byte ⌝ }
 {
     if star && byte == b' ' {
         return b'*';
+    }
+    byte
+}
+
+// Place p of a cell's field, which is such a byte, with the star where the cell has one.
+fn star_byte(cells: &[u32], cell: usize, p: usize, byte: u8) -> u8
+    ensures { λ r. ⌜ r ≡ starOver (starredAt (now (cells .entry)) cell p) byte ⌝ }
+{
+    if p == STAR_PLACE {
+        return star_over(page_stars::is_starred(cells, cell), byte);
     }
     byte
 }
@@ -73,8 +58,13 @@ fn field_byte(cells: &[u32], row: usize, column: usize, p: usize) -> u8
     if unit == b':' {
         return page_fields::field_text(page_fields::column_field(section.columns, column), p);
     }
-    let byte = page_fields::shown(unit, value_of(cells, page_form::cell_in(row, column)), p);
-    star_over(is_starred(cells, row, column, p), byte)
+    let cell = page_form::cell_in(row, column);
+    star_byte(
+        cells,
+        cell,
+        p,
+        page_fields::shown(unit, value_of(cells, cell), p),
+    )
 }
 
 // Byte i of a row: of its title, of a field, or the line feed.
@@ -115,7 +105,7 @@ fn put_sheet(cells: &[u32], out: &mut [u8])
     }
 }
 
-// Writes a sheet as a worksheet.
+// Writes a sheet as a worksheet: its cells, and after them in the list what stands beside them.
 pub fn print(cells: &[u32], out: &mut [u8; SHEET_BYTES])
     ensures { λ _. ⌜ now (out .exit) ≡ sheetText (now (cells .entry)) ⌝ }
 {

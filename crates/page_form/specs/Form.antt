@@ -1,4 +1,4 @@
--- The form of the printed worksheet: its rows, and which cells of a sheet stand in them.
+-- The form of the printed worksheet: its rows, and which cells stand in them: a sheet's, and those beside it.
 use Prim.Native.Nat.{ℕ, _+_, _*_, _-_, _/_, _%_}
 use Prim.Native.String.{String}
 use mathlib.Core.Bool.{cond}
@@ -7,7 +7,7 @@ use lib.ListN.{getD}
 use lib.Dec.{ltb}
 use Rattle.text.specs.Text.{joined}
 use Rattle.layout.specs.Entries.{approachCount, groupCount, movementEntries, approachesFrom, approachEntries, cycleEntry}
-use Rattle.layout.specs.Sheet.{lineCount, linesFrom, pairCount, pairCells, pairsFrom, lastCells, lastFrom, combinedCell}
+use Rattle.layout.specs.Sheet.{lineCount, linesFrom, pairCount, pairCells, pairsFrom, lastCells, lastFrom, combinedCell, sheetCount}
 use Rattle.page_form.specs.declared.Counted.{Counted}
 use Rattle.page_form.specs.declared.Counted.the-variants.{Rows, Cells}
 use Rattle.page_form.specs.declared.Section.{Section}
@@ -78,6 +78,12 @@ rows =
     "J  required                    51 s" ∷
     "J  ICU                         51 %" ∷
     "J  level of service            52 A" ∷
+    "no beside the lines          book :" ∷
+    "23 own volume of left lane     25 v" ∷
+    "23 own left equivalents        27 f" ∷
+    "23 own saturation A            29 v" ∷
+    "R  cross through               47 s" ∷
+    "R  oncoming left               49 s" ∷
     []
 
 abbrev pub titleWidth : ℕ
@@ -104,7 +110,7 @@ abbrev pub endOf : Counted → Section → ℕ
 endOf Rows s = s .row + s .step
 endOf Cells s = s .cell + s .step * s .columns
 
--- a heading is a row, over the entries, the lines, the pairs and the last cells
+-- a heading is a row, over the entries, the lines, the pairs, the last cells and what stands beside them
 abbrev pub headed : ℕ → ℕ
 headed row = row + 1
 
@@ -131,8 +137,19 @@ rights = headed (endOf Rows pairs) from lastFrom by 1 columns approachCount
 abbrev pub whole : Section
 whole = endOf Rows rights from combinedCell by (lastCells - approachCount) columns 1
 
+-- what is worked by hand beside the sheet's cells: past them, five numbers for each approach
+abbrev pub besideNumbers : ℕ
+besideNumbers = 5
+
+abbrev pub beside : Section
+beside = headed (endOf Rows whole) from sheetCount by besideNumbers columns approachCount
+
 abbrev pub rowCount : ℕ
-rowCount = endOf Rows whole
+rowCount = endOf Rows beside
+
+-- the cells of a page: a sheet's, and those beside it
+abbrev pub shownCount : ℕ
+shownCount = endOf Cells beside
 
 -- the first section that has the row or the cell i before its end, else the last
 unfoldable pub sectionBy : Counted → ℕ → Section
@@ -142,7 +159,8 @@ sectionBy counted i =
     (cond (ltb i (endOf counted cycle)) cycle
     (cond (ltb i (endOf counted lines)) lines
     (cond (ltb i (endOf counted pairs)) pairs
-    (cond (ltb i (endOf counted rights)) rights whole)))))
+    (cond (ltb i (endOf counted rights)) rights
+    (cond (ltb i (endOf counted whole)) whole beside))))))
 
 -- of a row; a heading goes with the rows under it
 abbrev pub sectionAt : ℕ → Section

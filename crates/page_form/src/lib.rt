@@ -1,4 +1,4 @@
-// The form of the printed worksheet: a table of its rows, and which cells of a sheet stand in them.
+// The form of the printed worksheet: a table of its rows, and which cells stand in them: a sheet's, and those beside it.
 ghost use mathlib.Core.Path.{_≡_};
 ghost use mathlib.Core.Bool.{cond};
 ghost use Prim.Native.Nat.{_-_, _≤_, _<_};
@@ -10,7 +10,10 @@ ghost use Rattle.page_form.specs.Working.{Small};
 
 pub const TITLE_WIDTH: usize = 35;
 
-pub const ROWS: usize = Section::WHOLE.row + Section::WHOLE.step;
+pub const ROWS: usize = Section::BESIDE.row + Section::BESIDE.step;
+
+// What is worked by hand beside an approach's lines.
+const BESIDE_NUMBERS: usize = 5;
 
 const TITLE_BYTES: usize = TITLE_WIDTH * ROWS;
 
@@ -76,7 +79,13 @@ const TITLES: [u8; TITLE_BYTES] = *b"no entry                     book :\
     J  combined                    44 s\
     J  required                    51 s\
     J  ICU                         51 %\
-    J  level of service            52 A";
+    J  level of service            52 A\
+    no beside the lines          book :\
+    23 own volume of left lane     25 v\
+    23 own left equivalents        27 f\
+    23 own saturation A            29 v\
+    R  cross through               47 s\
+    R  oncoming left               49 s";
 
 // Rows that go together. The cells of a column stand one after the other, a row each.
 pub struct Section {
@@ -92,7 +101,7 @@ enum Counted {
     Cells,
 }
 
-// A heading stands over the entries, the lines, the pairs and the last cells.
+// A heading stands over the entries, the lines, the pairs, the last cells and what stands beside them.
 const HEADING: usize = 1;
 
 impl Section {
@@ -124,7 +133,7 @@ impl Section {
         columns: layout::APPROACHES,
     };
 
-    pub const PAIRS: Section = Section {
+    const PAIRS: Section = Section {
         row: Section::LINES.row + Section::LINES.step + HEADING,
         cell: layout::PAIRS_FROM,
         step: layout::PAIR_CELLS,
@@ -143,6 +152,13 @@ impl Section {
         cell: layout::COMBINED_CELL,
         step: layout::LAST_CELLS - layout::APPROACHES,
         columns: 1,
+    };
+
+    const BESIDE: Section = Section {
+        row: Section::WHOLE.row + Section::WHOLE.step + HEADING,
+        cell: layout::CELLS,
+        step: BESIDE_NUMBERS,
+        columns: layout::APPROACHES,
     };
 
     // The row or the cell past this section's.
@@ -171,7 +187,8 @@ impl Section {
     fn by(counted: Counted, i: usize) -> Section
         ensures { λ r. ⌜ (r ≡ sectionBy counted i) × Small r ⌝ }
     {
-        let from_rights = Section::RIGHTS.or(counted, i, Section::WHOLE);
+        let from_whole = Section::WHOLE.or(counted, i, Section::BESIDE);
+        let from_rights = Section::RIGHTS.or(counted, i, from_whole);
         let from_pairs = Section::PAIRS.or(counted, i, from_rights);
         let from_lines = Section::LINES.or(counted, i, from_pairs);
         let from_cycle = Section::CYCLE.or(counted, i, from_lines);

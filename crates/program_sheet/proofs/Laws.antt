@@ -1,20 +1,16 @@
--- Laws of what a fill answers and leaves, of a page that fills its area, and of each way that a run can go.
+-- Laws of a page that fills its area, and of each way that a run can go.
 use Prim.Native.Nat.{ℕ}
-use mathlib.Core.Path.{_≡_, refl, sym, _∙_}
+use mathlib.Core.Path.{_≡_, sym, _∙_}
 use mathlib.Core.Bool.{true, false}
-use mathlib.Core.List.{List}
+use mathlib.Core.List.{List, _++_}
 use lib.ListN.{length}
-use borrow.Author.Tests.{eq-eqb}
 use native.Mathlib.Omega.{arith}
-use Rattle.answers.specs.Answers.{left-by}
 use Rattle.answers.specs.declared.Refusal.{Refusal}
 use Rattle.answers.specs.declared.Answer.the-variants.{Accepted, Refused as No}
-use Rattle.layout.specs.Sheet.{sheetCount}
 use Rattle.lists.proofs.Laws.{length-table, over-whole}
 use Rattle.entries.specs.Judging.{judged}
 use Rattle.procedure.specs.Sheet.{sheet}
-use Rattle.sheet_cells.specs.Cells.{sheetAnswer}
-use Rattle.sheet.specs.Fill.{fillAnswer, filled}
+use Rattle.sheet_beside.specs.Beside.{beside}
 use Rattle.page.specs.Worksheet.{sheetBytes, sheetByte, sheetText}
 use Rattle.text.specs.Text.{Placed}
 use Rattle.text_refusals.specs.Refusals.{refusalText}
@@ -22,16 +18,6 @@ use Rattle.program_words.specs.Words.{wordAt}
 use Rattle.program_outcome.specs.declared.Call.{Call}
 use Rattle.program_outcome.specs.Outcome.{printing, saying, withFile}
 use Rattle.program_sheet.specs.Run.{sheetOf, sheetOfFile, sheetUse, sheetTakes, sheetRun}
-
--- filling a sheet of the right size answers as the entries are judged
-module _ (e d : List ℕ) (sized : length d ≡ sheetCount) where
-  pub fill-answers : fillAnswer e d ≡ judged e
-  unfolding fillAnswer sheetAnswer
-  fill-answers = rw (eq-eqb (length d) sheetCount sized)
-
-  pub fill-leaves : filled e d ≡ left-by (judged e) (sheet e) d
-  unfolding filled
-  fill-leaves = rw fill-answers
 
 -- the page of a sheet takes all of its area
 pub whole-page : (cells : List ℕ) {printed printed′ : List ℕ} {size : ℕ} → size ≡ length printed → length printed ≡ sheetBytes
@@ -46,7 +32,7 @@ pub sheet-refused : {why : Refusal} {place : ℕ} (e : List ℕ) → judged e �
 unfolding sheetOf
 sheet-refused e bad = rw bad
 
-pub sheet-printed : (e : List ℕ) → judged e ≡ Accepted → sheetOf e ≡ printing (sheetText (sheet e))
+pub sheet-printed : (e : List ℕ) → judged e ≡ Accepted → sheetOf e ≡ printing (sheetText (sheet e ++ beside e))
 unfolding sheetOf
 sheet-printed e good = rw good
 

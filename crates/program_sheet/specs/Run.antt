@@ -1,12 +1,13 @@
 -- What `icusheet` gives: the worksheet of a junction's text or of a site of a study, or what is said.
 use Prim.Native.Nat.{ℕ}
 use mathlib.Core.Bool.{Bool, cond}
-use mathlib.Core.List.{List}
+use mathlib.Core.List.{List, _++_}
 use lib.Dec.{eqb}
 use Rattle.answers.specs.declared.Answer.{Answer}
 use Rattle.answers.specs.declared.Answer.the-variants.{Accepted, Refused as No}
 use Rattle.entries.specs.Judging.{judged}
 use Rattle.procedure.specs.Sheet.{sheet}
+use Rattle.sheet_beside.specs.Beside.{beside}
 use Rattle.page.specs.Worksheet.{sheetText}
 use Rattle.study.specs.Study.{siteEntries}
 use Rattle.text.specs.Text.{ascii}
@@ -20,9 +21,9 @@ use Rattle.program_outcome.specs.declared.Call.{Call}
 use Rattle.program_outcome.specs.Outcome.{Outcome, isEither, printing, saying, named, withFile}
 use Rattle.program_site.specs.Site.{sought, withSite}
 
--- the sheet that is filled from entries, or why they are refused
+-- the sheet that is filled from entries, with what stands beside it, or why they are refused
 abbrev pub filledBy : Answer → List ℕ → Outcome
-filledBy Accepted e = printing (sheetText (sheet e))
+filledBy Accepted e = printing (sheetText (sheet e ++ beside e))
 filledBy (No why place) e = saying (refusalText why place)
 
 unfoldable pub sheetOf : List ℕ → Outcome

@@ -5,7 +5,6 @@ ghost use Rattle.text.specs.Text.{Placed};
 ghost use Rattle.program_outcome.specs.Outcome.{Left};
 ghost use Rattle.program_sheet.specs.Run.{sheetOf, sheetOfText, sheetOfSite, sheetOfFile, sheetUse, sheetTakes, sheetRun};
 use answers::Answer;
-use layout::CELLS;
 use layout::ENTRIES;
 use program_outcome::AREA_BYTES;
 use program_outcome::Call;
@@ -43,8 +42,8 @@ fn print_sheet(
 ) -> Lengths
     ensures { λ r. ⌜ Left (sheetOf (now (entries .entry))) (now (printed .entry)) (now (said .entry)) (now (printed .exit)) (now (said .exit)) r ⌝ }
 {
-    let mut cells = [0u32; CELLS];
-    let answer = sheet::fill(entries, &mut cells);
+    let mut cells = [0u32; sheet_beside::CELLS];
+    let answer = sheet_beside::fill(entries, &mut cells);
     if let Answer::Refused(why, place) = answer {
         return program_outcome::only_said(program_refusals::say_answer(
             Answer::Refused(why, place),

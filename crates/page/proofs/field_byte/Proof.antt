@@ -28,13 +28,11 @@ returns-2 c =
 returns-3 : tie.Need-returns-3
 unfolding fieldByte
 returns-3 c =
-    let star = c .before in
-    let value = star .before in
+    let value = c .before in
     let head = value .before .before .before in
     let unit = head .before .before .before in
     rw (
-      c .star-over .ensures,
-      star .is-starred .ensures,
+      c .star-byte .ensures,
       value .shown .ensures,
       value .before .value-of .ensures,
       value .before .before .cell-in .ensures,
@@ -47,4 +45,4 @@ pub field-byte-spec : {M : Type 1} → statement M
 field-byte-spec =
     tie.close
     (tie.spec (search needs) (search needs) returns (search needs) (search needs) returns-2 (search needs)
-    (search needs) (search needs) (search needs) (search needs) returns-3)
+    (search needs) (search needs) (search needs) returns-3)

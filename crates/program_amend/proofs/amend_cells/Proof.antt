@@ -1,5 +1,5 @@
 -- `program_amend::amend_cells`. A refused fill leaves both; else the filled sheet is amended.
-use Rattle.program_sheet.proofs.Laws.{fill-answers, fill-leaves}
+use Rattle.sheet_beside.proofs.Laws.{fill-answers, fill-leaves}
 use mathlib.Core.Path.{refl, sym, _∙_}
 use native.Mathlib.Omega.{arith}
 use borrow.Author.Needs.{needs}

@@ -1,0 +1,15 @@
+use borrow.Author.Needs.{needs}
+use Rattle.page_stars.specs.Stars.{deciding}
+use Rattle.page_stars.proofs.deciding_cell.Statement.{statement}
+use Rattle.page_stars.proofs.deciding_cell.Tie as tie
+
+returns : tie.Need-returns
+unfolding deciding
+returns c =
+    let wb = c .before .before in
+    rw (c .or-else4 .ensures, c .before .or-else3 .ensures, wb .or-else2 .ensures, wb .before .or-else .ensures)
+
+pub deciding-cell-spec : {M : Type 1} → statement M
+deciding-cell-spec =
+    tie.close
+    (tie.spec (search needs) (search needs) (search needs) (search needs) (search needs) (search needs) (search needs) (search needs) returns)
