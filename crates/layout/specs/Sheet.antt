@@ -1,5 +1,5 @@
 -- "The sheet is 81 entries, 28 lines of each approach, 4 cells of each pair, the last 8.": where each cell stands.
-use Prim.Native.Nat.{ℕ, _+_, _*_}
+use Prim.Native.Nat.{ℕ, _+_, _*_, _/_}
 use Rattle.layout.specs.Entries.{approachCount, entryCount}
 
 -- "28 lines of each approach"
@@ -15,6 +15,10 @@ pairCount = 2
 
 abbrev pub pairCells : ℕ
 pairCells = 4
+
+-- the approaches of a pair
+abbrev pub inPair : ℕ
+inPair = approachCount / pairCount
 
 abbrev pub pairsFrom : ℕ
 pairsFrom = linesFrom + lineCount * approachCount
@@ -65,6 +69,13 @@ icuCell = requiredCell + 1
 
 abbrev pub letterCell : ℕ
 letterCell = icuCell + 1
+
+-- the numbers of each approach that a page shows beside the sheet's cells, past them in one list
+abbrev pub besideNumbers : ℕ
+besideNumbers = 5
+
+abbrev pub pageCount : ℕ
+pageCount = sheetCount + besideNumbers * approachCount
 
 -- "BLANK is 4,294,967,295 and stands for 'not allowed'": the largest number of 32 bits
 abbrev pub BLANK : ℕ

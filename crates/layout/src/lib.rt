@@ -60,6 +60,9 @@ pub const LINES_FROM: usize = ENTRIES;
 
 pub const PAIRS: usize = 2;
 
+// The approaches of a pair.
+pub const IN_PAIR: usize = APPROACHES / PAIRS;
+
 // Protected, permitted, split, and which of them is picked.
 pub const PAIR_CELLS: usize = 4;
 
@@ -83,6 +86,11 @@ pub const REQUIRED_CELL: usize = COMBINED_CELL + 1;
 pub const ICU_CELL: usize = REQUIRED_CELL + 1;
 
 pub const LETTER_CELL: usize = ICU_CELL + 1;
+
+// The numbers of each approach that a page shows beside the sheet's cells, past them in one list.
+pub const BESIDE_NUMBERS: usize = 5;
+
+pub const PAGE_CELLS: usize = CELLS + BESIDE_NUMBERS * APPROACHES;
 
 // What a cell holds where an option is not allowed; the largest number of 32 bits.
 pub const BLANK: u32 = 4_294_967_295;

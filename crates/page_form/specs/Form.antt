@@ -7,7 +7,7 @@ use lib.ListN.{getD}
 use lib.Dec.{ltb}
 use Rattle.text.specs.Text.{joined}
 use Rattle.layout.specs.Entries.{approachCount, groupCount, movementEntries, approachesFrom, approachEntries, cycleEntry}
-use Rattle.layout.specs.Sheet.{lineCount, linesFrom, pairCount, pairCells, pairsFrom, lastCells, lastFrom, combinedCell, sheetCount}
+use Rattle.layout.specs.Sheet.{lineCount, linesFrom, pairCount, pairCells, pairsFrom, lastCells, lastFrom, combinedCell, sheetCount, besideNumbers}
 use Rattle.page_form.specs.declared.Counted.{Counted}
 use Rattle.page_form.specs.declared.Counted.the-variants.{Rows, Cells}
 use Rattle.page_form.specs.declared.Section.{Section}
@@ -137,10 +137,7 @@ rights = headed (endOf Rows pairs) from lastFrom by 1 columns approachCount
 abbrev pub whole : Section
 whole = endOf Rows rights from combinedCell by (lastCells - approachCount) columns 1
 
--- what is worked by hand beside the sheet's cells: past them, five numbers for each approach
-abbrev pub besideNumbers : ℕ
-besideNumbers = 5
-
+-- what is worked by hand beside the sheet's cells, past them
 abbrev pub beside : Section
 beside = headed (endOf Rows whole) from sheetCount by besideNumbers columns approachCount
 

@@ -12,9 +12,6 @@ pub const TITLE_WIDTH: usize = 35;
 
 pub const ROWS: usize = Section::BESIDE.row + Section::BESIDE.step;
 
-// What is worked by hand beside an approach's lines.
-const BESIDE_NUMBERS: usize = 5;
-
 const TITLE_BYTES: usize = TITLE_WIDTH * ROWS;
 
 // Each row: its number in the rules, its name, its line in the book and its unit.
@@ -157,7 +154,7 @@ impl Section {
     const BESIDE: Section = Section {
         row: Section::WHOLE.row + Section::WHOLE.step + HEADING,
         cell: layout::CELLS,
-        step: BESIDE_NUMBERS,
+        step: layout::BESIDE_NUMBERS,
         columns: layout::APPROACHES,
     };
 

@@ -4,13 +4,9 @@ use mathlib.Core.Bool.{Bool, true, false, cond, not, _&&_, _||_}
 use mathlib.Core.List.{List}
 use lib.ListN.{getD}
 use lib.Dec.{eqb, leb, ltb}
-use Rattle.layout.specs.Entries.{approachCount, EB, WB, NB, SB}
-use Rattle.layout.specs.Sheet.{BLANK, lineCount, linesFrom, linesOf, pairCount, pairCells, pairsFrom, protectedCell, pickNo, pickCell}
+use Rattle.layout.specs.Entries.{EB, WB, NB, SB}
+use Rattle.layout.specs.Sheet.{BLANK, lineCount, linesFrom, linesOf, inPair, pairCells, pairsFrom, protectedCell, pickNo, pickCell}
 use Rattle.layout.specs.Sheet.{lastFrom, combinedCell, requiredCell}
-
--- a pair is two approaches
-abbrev pub inPair : ℕ
-inPair = approachCount / pairCount
 
 -- line k of approach a
 abbrev pub lineAt : List ℕ → ℕ → ℕ → ℕ

@@ -10,9 +10,6 @@ use layout::NB;
 use layout::SB;
 use layout::WB;
 
-// A pair is two approaches.
-const IN_PAIR: usize = layout::APPROACHES / layout::PAIRS;
-
 // What a cell holds; 0 past the list.
 pub fn value_of(cells: &[u32], cell: usize) -> u32
     ensures { λ r. ⌜ r ≡ getD (now (cells .entry)) cell 0 ⌝ }
@@ -44,7 +41,7 @@ fn leader(cells: &[u32], pair: usize) -> usize
     requires { ⌜ pair < pairCount ⌝ }
     ensures { λ r. ⌜ r ≡ leaderOf (now (cells .entry)) pair ⌝ }
 {
-    let first = IN_PAIR * pair;
+    let first = layout::IN_PAIR * pair;
     let second = first + 1;
     let other = sum_of(cells, second, first);
     if other <= sum_of(cells, first, second) {
@@ -58,7 +55,7 @@ fn is_in_sum(cells: &[u32], a: usize, k: usize) -> bool
     requires { ⌜ a < approachCount ⌝ }
     ensures { λ r. ⌜ r ≡ inSum (now (cells .entry)) a k ⌝ }
 {
-    let pair = a / IN_PAIR;
+    let pair = a / layout::IN_PAIR;
     if value_of(cells, layout::PAIRS_FROM + layout::PAIR_CELLS * pair) == layout::BLANK {
         return false;
     }

@@ -42,7 +42,7 @@ fn print_sheet(
 ) -> Lengths
     ensures { λ r. ⌜ Left (sheetOf (now (entries .entry))) (now (printed .entry)) (now (said .entry)) (now (printed .exit)) (now (said .exit)) r ⌝ }
 {
-    let mut cells = [0u32; sheet_beside::CELLS];
+    let mut cells = [0u32; layout::PAGE_CELLS];
     let answer = sheet_beside::fill(entries, &mut cells);
     if let Answer::Refused(why, place) = answer {
         return program_outcome::only_said(program_refusals::say_answer(

@@ -8,7 +8,7 @@ use lib.ListN.{length, getD, length-append}
 use native.Mathlib.Omega.{arith}
 use borrow.Author.Tests.{eq-eqb}
 use Rattle.layout.specs.Entries.{EB, WB, NB, SB, freeNo, approachPlace}
-use Rattle.layout.specs.Sheet.{sheetCount}
+use Rattle.layout.specs.Sheet.{sheetCount, besideNumbers, pageCount}
 use Rattle.units.specs.Rounding.{up}
 use Rattle.units.specs.Unit.{whole}
 use Rattle.kinds.specs.declared.Group.the-variants.{Left}
@@ -25,7 +25,6 @@ use Rattle.sheet_cells.specs.Cells.{sheetAnswer}
 use Rattle.sheet_cells.proofs.Cells.{sheet-length}
 use Rattle.sheet.specs.Fill.{fillAnswer, filled}
 use Rattle.sheet_beside.specs.Beside.{ownLane, lineIn, throughIn, leftIn, added, besideAt, besideOf, beside, filledBeside}
-use Rattle.sheet_beside.specs.Working.{numbers, allCount}
 
 -- lists of one length, whichever is chosen
 either-long : (t : Bool) (x y : List ℕ) {n : ℕ} → length x ≡ n → length y ≡ n → length (cond t x y) ≡ n
@@ -44,7 +43,7 @@ added-length cells a o c =
     either-long (eqb (lineIn cells a 3) 0 || eqb (getD cells (approachPlace a freeNo) 0) 1) (0 ∷ 0 ∷ []) (throughIn cells c ∷ leftIn cells o ∷ [])
     refl refl
 
-pub beside-length : (e cells : List ℕ) (a o c : ℕ) → length (besideAt e cells a o c) ≡ numbers
+pub beside-length : (e cells : List ℕ) (a o c : ℕ) → length (besideAt e cells a o c) ≡ besideNumbers
 unfolding besideAt
 beside-length e cells a o c =
     let lane = ownLane (readApproach e a) (readApproach e o) (cycle e) in
@@ -56,7 +55,7 @@ beside-length e cells a o c =
     )
 
 -- the sheet and what stands beside it
-pub all-length : (e : List ℕ) → length (sheet e) ≡ sheetCount → length (sheet e ++ beside e) ≡ allCount
+pub all-length : (e : List ℕ) → length (sheet e) ≡ sheetCount → length (sheet e ++ beside e) ≡ pageCount
 unfolding besideOf
 all-length e sized =
     let cells = sheet e in
@@ -77,7 +76,7 @@ all-length e sized =
     )
 
 -- a list that is filled keeps its length
-pub filled-length : (e d : List ℕ) → judged e ≡ Accepted → length (filledBeside e d) ≡ allCount
+pub filled-length : (e d : List ℕ) → judged e ≡ Accepted → length (filledBeside e d) ≡ pageCount
 unfolding filledBeside
 filled-length e d good = rw good (all-length e (sheet-length e (accepted-count e good)))
 

@@ -7,14 +7,14 @@ use native.Mathlib.Omega.{arith}
 use lib.Dec.{eqb, lit<, lit≤}
 use lib.ListN.{length, getD}
 use Rattle.layout.specs.Entries.{approachCount, entryCount, EB, WB, NB, SB, freeNo, approachPlace}
-use Rattle.layout.specs.Sheet.{lineCount, lastFrom}
+use Rattle.layout.specs.Sheet.{lineCount, inPair, lastFrom}
 use Rattle.procedure.specs.Approach.{readApproach, isFree}
 use Rattle.procedure.specs.Pairs.{line, pickOf, throughTime, leftTime, rightTotal}
 use Rattle.procedure.specs.Sheet.{linesAt, pairAt, rightAt, lastOf, lastAt, sheet}
 use Rattle.entries.specs.Layout.{approachEntry}
 use Rattle.sheet_cells.specs.Cells.{opposite}
 use Rattle.sheet_cells.proofs.Cells.{entry-cell, line-cell, pair-cell, last-cell}
-use Rattle.sheet_beside.specs.Beside.{inPair, lineIn, pickIn, throughIn, leftIn, added}
+use Rattle.sheet_beside.specs.Beside.{lineIn, pickIn, throughIn, leftIn, added}
 
 -- a right total by the cells: line 18 and the two numbers beside it, where there are rights
 abbrev pub rightIn : List ℕ → ℕ → ℕ → ℕ → ℕ

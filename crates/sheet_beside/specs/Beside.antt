@@ -6,8 +6,8 @@ use lib.Dec.{eqb}
 use lib.ListN.{getD}
 use Rattle.units.specs.Rounding.{up}
 use Rattle.units.specs.Unit.{whole}
-use Rattle.layout.specs.Entries.{approachCount, EB, WB, NB, SB, freeNo, approachPlace}
-use Rattle.layout.specs.Sheet.{linesOf, pairCount, pickCell}
+use Rattle.layout.specs.Entries.{EB, WB, NB, SB, freeNo, approachPlace}
+use Rattle.layout.specs.Sheet.{linesOf, inPair, pickCell}
 use Rattle.kinds.specs.declared.Group.the-variants.{Left}
 use Rattle.answers.specs.Answers.{left-by}
 use Rattle.entries.specs.Layout.{cycle}
@@ -23,10 +23,6 @@ unfoldable pub ownLane : Approach → Approach → ℕ → List ℕ
 ownLane s o CL =
     cond (eqb (volume s Left) 0) (0 ∷ 0 ∷ 0 ∷ [])
     (up (volume s Left) (n s Left) ∷ equivalent whole (leftShare o) CL ∷ leftA s o CL ∷ [])
-
--- a pair is two approaches
-abbrev pub inPair : ℕ
-inPair = approachCount / pairCount
 
 -- line k of approach a, and the pick of its pair, among a sheet's cells
 abbrev pub lineIn : List ℕ → ℕ → ℕ → ℕ

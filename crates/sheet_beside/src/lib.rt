@@ -6,7 +6,7 @@ ghost use lib.ListN.{length};
 ghost use Rattle.answers.specs.declared.Answer.the-variants.{Accepted};
 ghost use Rattle.lists.specs.Lists.{over};
 ghost use Rattle.layout.specs.Entries.{approachCount};
-ghost use Rattle.layout.specs.Sheet.{lineCount, sheetCount};
+ghost use Rattle.layout.specs.Sheet.{lineCount, sheetCount, besideNumbers, pageCount};
 ghost use Rattle.entries.specs.Judging.{judged};
 ghost use Rattle.procedure.specs.Ranges.{Fair, FairCycle};
 ghost use Rattle.procedure.specs.Approach.{readApproach};
@@ -15,28 +15,20 @@ ghost use Rattle.procedure.specs.Sheet.{sheet as sheetOf};
 ghost use Rattle.entries.specs.Layout.{cycle as cycleOf};
 ghost use Rattle.sheet_beside.specs.Beside.{ownLane, lineIn, pickIn, throughIn, leftIn, added};
 ghost use Rattle.sheet_beside.specs.Beside.{besideAt, besideOf, beside, filledBeside};
-ghost use Rattle.sheet_beside.specs.Working.{numbers, allCount};
 use answers::Answer;
 use kinds::Cycle;
 use layout::EB;
 use layout::NB;
+use layout::PAGE_CELLS;
 use layout::SB;
 use layout::WB;
 use procedure::Approach;
-
-// A pair is two approaches.
-const IN_PAIR: usize = layout::APPROACHES / layout::PAIRS;
 
 // Of the left group's own lane: its volume, its equivalents and its flow.
 const LANE_NUMBERS: usize = 3;
 
 // Of a right total: the cross through and the oncoming left.
 const ADDED_NUMBERS: usize = 2;
-
-pub const NUMBERS: usize = LANE_NUMBERS + ADDED_NUMBERS;
-
-// The sheet, and what stands beside it, approach by approach.
-pub const CELLS: usize = layout::CELLS + NUMBERS * layout::APPROACHES;
 
 // The lane of lefts alone behind line 23.
 fn own_lane(s: Approach, o: Approach, cycle: Cycle) -> [u32; LANE_NUMBERS]
@@ -68,7 +60,7 @@ fn pick_in(cells: &[u32], a: usize) -> u32
     requires { ⌜ (length (now cells) ≡ sheetCount) × (a < approachCount) ⌝ }
     ensures { λ r. ⌜ r ≡ pickIn (now (cells .entry)) a ⌝ }
 {
-    cells[layout::PAIRS_FROM + layout::PAIR_CELLS * (a / IN_PAIR) + layout::PICK]
+    cells[layout::PAIRS_FROM + layout::PAIR_CELLS * (a / layout::IN_PAIR) + layout::PICK]
 }
 
 // By a pick: protected, permitted, split.
@@ -122,7 +114,7 @@ fn added_in(cells: &[u32], a: usize, o: usize, c: usize) -> [u32; ADDED_NUMBERS]
 }
 
 fn put_numbers(all: &mut [u32], at: usize, lane: [u32; LANE_NUMBERS], added: [u32; ADDED_NUMBERS])
-    requires { ⌜ at + numbers ≤ length (now all) ⌝ }
+    requires { ⌜ at + besideNumbers ≤ length (now all) ⌝ }
     ensures { λ _. ⌜ now (all .exit) ≡ over (now (all .entry)) at (lane ++ added) ⌝ }
 {
     lists::put(all, at, &lane);
@@ -141,18 +133,18 @@ fn lane_at(entries: &[u32], a: usize, o: usize) -> [u32; LANE_NUMBERS]
 
 // Puts the five numbers of an approach in their place.
 fn put_beside(entries: &[u32], cells: &[u32], all: &mut [u32], a: usize, o: usize, c: usize)
-    requires { ⌜ (judged (now entries) ≡ Accepted) × (length (now cells) ≡ sheetCount) × (length (now all) ≡ allCount) ⌝ }
+    requires { ⌜ (judged (now entries) ≡ Accepted) × (length (now cells) ≡ sheetCount) × (length (now all) ≡ pageCount) ⌝ }
     requires { ⌜ (a < approachCount) × (o < approachCount) × (c < approachCount) ⌝ }
-    ensures { λ _. ⌜ now (all .exit) ≡ over (now (all .entry)) (sheetCount + numbers * a) (besideAt (now (entries .entry)) (now (cells .entry)) a o c) ⌝ }
+    ensures { λ _. ⌜ now (all .exit) ≡ over (now (all .entry)) (sheetCount + besideNumbers * a) (besideAt (now (entries .entry)) (now (cells .entry)) a o c) ⌝ }
 {
     let lane = lane_at(entries, a, o);
     let added = added_in(cells, a, o, c);
-    put_numbers(all, layout::CELLS + NUMBERS * a, lane, added);
+    put_numbers(all, layout::CELLS + layout::BESIDE_NUMBERS * a, lane, added);
 }
 
 // Those of every approach.
 fn put_each(entries: &[u32], cells: &[u32], all: &mut [u32])
-    requires { ⌜ (judged (now entries) ≡ Accepted) × (length (now cells) ≡ sheetCount) × (length (now all) ≡ allCount) ⌝ }
+    requires { ⌜ (judged (now entries) ≡ Accepted) × (length (now cells) ≡ sheetCount) × (length (now all) ≡ pageCount) ⌝ }
     ensures { λ _. ⌜ now (all .exit) ≡ over (now (all .entry)) sheetCount (besideOf (now (entries .entry)) (now (cells .entry))) ⌝ }
 {
     put_beside(entries, cells, all, EB, WB, SB);
@@ -163,7 +155,7 @@ fn put_each(entries: &[u32], cells: &[u32], all: &mut [u32])
 
 // The cells of a filled sheet, then what stands beside them.
 fn put_all(entries: &[u32], cells: &[u32], all: &mut [u32])
-    requires { ⌜ (judged (now entries) ≡ Accepted) × (now cells ≡ sheetOf (now entries)) × (length (now all) ≡ allCount) ⌝ }
+    requires { ⌜ (judged (now entries) ≡ Accepted) × (now cells ≡ sheetOf (now entries)) × (length (now all) ≡ pageCount) ⌝ }
     ensures { λ _. ⌜ now (all .exit) ≡ sheetOf (now (entries .entry)) ++ beside (now (entries .entry)) ⌝ }
 {
     lists::put(all, 0, cells);
@@ -171,7 +163,7 @@ fn put_all(entries: &[u32], cells: &[u32], all: &mut [u32])
 }
 
 // Fills the sheet from the entries, and what stands beside it; where they are refused, the list stays as it was.
-pub fn fill(entries: &[u32], all: &mut [u32; CELLS]) -> Answer
+pub fn fill(entries: &[u32], all: &mut [u32; PAGE_CELLS]) -> Answer
     ensures { λ r. ⌜ r ≡ judged (now (entries .entry)) ⌝ }
     ensures { λ r. ⌜ now (all .exit) ≡ filledBeside (now (entries .entry)) (now (all .entry)) ⌝ }
 {

@@ -2,7 +2,7 @@
 use Rattle.program_sheet.proofs.Laws.{whole-page, sheet-refused, sheet-printed}
 use Rattle.program_outcome.proofs.Laws.{left-printing, left-saying}
 use Rattle.sheet_beside.specs.Beside.{filledBeside}
-use Rattle.sheet_beside.specs.Working.{allCount}
+use Rattle.layout.specs.Sheet.{pageCount}
 use Rattle.sheet_beside.proofs.Laws.{filled-length}
 use mathlib.Core.Path.{sym, _∙_}
 use lib.ListN.{replicate}
@@ -26,7 +26,7 @@ slice-aggregate-print c =
     let fill = told .before .before in
     let e = fill .before .before .before .args .entries .now in
     let good = sym (fill .fill .ensures .0) ∙ told .enum-told .given .1 in
-    rw (fill .fill .ensures .1) (sym (filled-length e (replicate allCount 0) good))
+    rw (fill .fill .ensures .1) (sym (filled-length e (replicate pageCount 0) good))
 
 returns-2 : tie.Need-returns-2
 unfolding filledBeside
