@@ -8,7 +8,7 @@ ghost use Rattle.entries.specs.Judging.{judged};
 ghost use Rattle.text.specs.Text.{Placed};
 ghost use Rattle.program_changes.specs.Changes.{mostChanges, verdictBy, verdictOf, entriesAfter, isMade, changeWords, wordOfChange, verdictIn};
 ghost use Rattle.program_changes.specs.Changes.{verdictText, heading, told, changedBy};
-ghost use Rattle.program_changes.specs.Working.{verdictMost, headingMost, sentenceMost, Came};
+ghost use Rattle.program_changes.specs.Working.{verdictMost, headingMost, sentenceMost, saidMost, Came};
 use answers::Answer;
 use answers::Refusal;
 use kinds::Kind;
@@ -52,6 +52,12 @@ pub struct Done {
     pub says: usize,
 }
 
+fn judge(entries: &[u32; ENTRIES]) -> Answer
+    ensures { λ r. ⌜ r ≡ judged (now (entries .entry)) ⌝ }
+{
+    entries::judge(entries)
+}
+
 // Gives an entry its new value, if the entries are acceptable as they would stand.
 fn try_entry(entries: &mut [u32; ENTRIES], entry: u32, value: u32) -> Verdict
     requires { ⌜ entry < entryCount ⌝ }
@@ -60,7 +66,7 @@ fn try_entry(entries: &mut [u32; ENTRIES], entry: u32, value: u32) -> Verdict
 {
     let mut changed = *entries;
     changed[entry as usize] = value;
-    let answer = entries::judge(&changed);
+    let answer = judge(&changed);
     match answer {
         Answer::Accepted => {
             *entries = changed;
@@ -199,9 +205,9 @@ fn step(
     so: Done,
 ) -> Done
     requires { ⌜ (so .says + sentenceMost ≤ length (now said)) × (n < mostChanges) ⌝ }
-    ensures changed { λ r. ⌜ now (entries .exit) ≡ entriesAfter (verdictIn (now (words .entry)) n (now (entries .entry))) (now (entries .entry)) ⌝ }
-    ensures one { λ r. ⌜ r .made ≡ so .made || isMade (verdictIn (now (words .entry)) n (now (entries .entry))) ⌝ }
-    ensures says { λ r. ⌜ Placed (now (said .entry)) (so .says) (told several (now (words .entry)) n (verdictIn (now (words .entry)) n (now (entries .entry))))
+    ensures { λ r. ⌜ now (entries .exit) ≡ entriesAfter (verdictIn (now (words .entry)) n (now (entries .entry))) (now (entries .entry)) ⌝ }
+    ensures { λ r. ⌜ r .made ≡ so .made || isMade (verdictIn (now (words .entry)) n (now (entries .entry))) ⌝ }
+    ensures { λ r. ⌜ Placed (now (said .entry)) (so .says) (told several (now (words .entry)) n (verdictIn (now (words .entry)) n (now (entries .entry))))
         (now (said .exit)) (r .says) × (r .says ≤ so .says + sentenceMost) ⌝ }
 {
     let verdict = change_in(words, n, entries);
@@ -212,14 +218,8 @@ fn step(
     }
 }
 
-// Makes the changes that the words ask for, one after the other, and tells of those that are not made.
-pub fn change_all(
-    words: &[u8],
-    changes: usize,
-    entries: &mut [u32; ENTRIES],
-    said: &mut [u8; SAID_BYTES],
-) -> Done
-    requires { ⌜ changes ≤ mostChanges ⌝ }
+fn change_each(words: &[u8], changes: usize, entries: &mut [u32; ENTRIES], said: &mut [u8]) -> Done
+    requires { ⌜ (changes ≤ mostChanges) × (length (now said) ≡ saidMost) ⌝ }
     ensures { λ r. ⌜ Came (changedBy (now (words .entry)) changes (now (entries .entry)))
         (now (said .entry)) (now (entries .exit)) (now (said .exit)) r ⌝ }
 {
@@ -234,4 +234,18 @@ pub fn change_all(
         n += 1;
     }
     so
+}
+
+// Makes the changes that the words ask for, one after the other, and tells of those that are not made.
+pub fn change_all(
+    words: &[u8],
+    changes: usize,
+    entries: &mut [u32; ENTRIES],
+    said: &mut [u8; SAID_BYTES],
+) -> Done
+    requires { ⌜ changes ≤ mostChanges ⌝ }
+    ensures { λ r. ⌜ Came (changedBy (now (words .entry)) changes (now (entries .entry)))
+        (now (said .entry)) (now (entries .exit)) (now (said .exit)) r ⌝ }
+{
+    change_each(words, changes, entries, said)
 }

@@ -1,75 +1,71 @@
+-- Each way to return is a case of the definition: a title, then an entry under it, then the entry's value by its kind.
+use Rattle.program_changes.specs.Changes.{verdictOf}
+use mathlib.Core.Path.{refl}
+use borrow.Author.Tests.{le-leb, lt-leb, eq-eqb, ne-eqb}
 use borrow.Author.Needs.{needs}
 use Rattle.program_changes.proofs.change.Statement.{statement}
 use Rattle.program_changes.proofs.change.Tie as tie
-use Rattle.program_changes.proofs.change.Reads as reads
-use Rattle.program_changes.proofs.change.Lts as lts
-use Rattle.kinds.proofs.Kind.at.Reads as at-reads
-use Rattle.program_changes.proofs.try_entry.Reads as try-entry-reads
-use Rattle.text_names.proofs.entry_named.Reads as entry-named-reads
-use Rattle.text_names.proofs.row_of.Reads as row-of-reads
-use Rattle.text_values.proofs.value_of.Reads as value-of-reads
 
--- src/lib.rt:78:30
-row-of-requires : tie.Need-row-of-requires
-row-of-requires c κs = search needs
-
--- src/lib.rt:79:9
 returns : tie.Need-returns
-returns c = ?
+unfolding verdictOf
+returns c = (rw (← c .before .row-of .ensures .0, le-leb _ _ (c .if1 .taken)), refl)
 
--- src/lib.rt:81:9
-entry-named-requires : tie.Need-entry-named-requires
-entry-named-requires c κs = search needs
-
--- src/lib.rt:83:9
 returns-2 : tie.Need-returns-2
-returns-2 c = ?
+unfolding verdictOf
+returns-2 c =
+    let named = c .before in
+    let test = named .before in (
+      rw (
+        ← named .entry-named .ensures .0,
+        ← test .before .row-of .ensures .0,
+        lt-leb _ _ (test .if1 .left),
+        eq-eqb _ _ (c .if2 .taken),
+      ),
+      refl,
+    )
 
--- src/lib.rt:85:47
-cast-at : tie.Need-cast-at
-cast-at c = search needs
-
--- src/lib.rt:85:38
-at-requires : tie.Need-at-requires
-at-requires c κs = search needs
-
--- src/lib.rt:85:9
-value-of-requires : tie.Need-value-of-requires
-value-of-requires c κs = search needs
-
--- src/lib.rt:87:19
-enum-known-word : tie.Need-enum-known-word
-enum-known-word c = search needs
-
--- src/lib.rt:87:30
-try-entry-requires : tie.Need-try-entry-requires
-try-entry-requires c κs = search needs
-
--- src/lib.rt:88:20
-enum-known-word-2 : tie.Need-enum-known-word-2
-enum-known-word-2 c = search needs
-
--- src/lib.rt:74:1
 returns-3 : tie.Need-returns-3
-returns-3 c = ?
+unfolding verdictOf
+returns-3 c =
+    let told = c .before .before .before in
+    let read = told .before .before in
+    let found = read .before .before in
+    let named = found .before in
+    let test = named .before in (
+      rw (
+        ← named .entry-named .ensures .0,
+        ← test .before .row-of .ensures .0,
+        lt-leb _ _ (test .if1 .left),
+        ne-eqb _ _ (found .if2 .left),
+        ← read .before .at .ensures,
+        ← read .value-of .ensures,
+        told .word .given .1,
+      ) (c .try-entry .ensures .0),
+      c .try-entry .ensures .1,
+    )
 
--- src/lib.rt:74:1
 returns-4 : tie.Need-returns-4
-returns-4 c = ?
+unfolding verdictOf
+returns-4 c =
+    let told = c .before in
+    let read = told .before .before in
+    let found = read .before .before in
+    let named = found .before in
+    let test = named .before in (
+      rw (
+        ← named .entry-named .ensures .0,
+        ← test .before .row-of .ensures .0,
+        lt-leb _ _ (test .if1 .left),
+        ne-eqb _ _ (found .if2 .left),
+        ← read .before .at .ensures,
+        ← read .value-of .ensures,
+        told .word2 .given .1,
+      ),
+      refl,
+    )
 
 pub change-spec : {M : Type 1} → statement M
 change-spec =
     tie.close
-    (tie.spec
-    row-of-requires
-    returns
-    entry-named-requires
-    returns-2
-    cast-at
-    at-requires
-    value-of-requires
-    enum-known-word
-    try-entry-requires
-    enum-known-word-2
-    returns-3
-    returns-4)
+    (tie.spec (search needs) returns (search needs) returns-2 (search needs) (search needs) (search needs) (search needs) (search needs)
+    (search needs) returns-3 returns-4)

@@ -1,26 +1,18 @@
+use lib.ListN.{length-take}
+use native.Mathlib.Omega.{arith}
 use borrow.Author.Needs.{needs}
 use Rattle.program_changes.proofs.put_sentence.Statement.{statement}
 use Rattle.program_changes.proofs.put_sentence.Tie as tie
-use Rattle.program_changes.proofs.put_sentence.Reads as reads
-use Rattle.program_changes.proofs.put_sentence.Lts as lts
-use Rattle.program_outcome.proofs.front.Reads as front-reads
-use Rattle.text.proofs.put_bytes.Reads as put-bytes-reads
 
--- src/lib.rt:167:30
-front-requires : tie.Need-front-requires
-front-requires c κs = search needs
-
--- src/lib.rt:167:5
 put-bytes-requires : tie.Need-put-bytes-requires
-put-bytes-requires c κs = ?
+put-bytes-requires c κs = rw (c .front .ensures .0, length-take) (omega arith)
 
--- src/lib.rt:158:1
-same-length : tie.Need-same-length
-same-length c = search needs
-
--- src/lib.rt:158:1
 returns : tie.Need-returns
-returns c = ?
+returns c =
+    let put = c .before .before in
+    let args = put .before .before .before .before .before .args in
+    let placed = rw (put .before .front .ensures .0) at (put .put-bytes .ensures) in
+    (placed, omega (arith, placed .next, length-take (args .size) (args .sentence .now)))
 
 pub put-sentence-spec : {M : Type 1} → statement M
-put-sentence-spec = tie.close (tie.spec front-requires put-bytes-requires same-length returns)
+put-sentence-spec = tie.close (tie.spec (search needs) put-bytes-requires (search needs) returns)
