@@ -1,65 +1,81 @@
--- `program_amend::run`. A wrong number of arguments; then each way that the words can ask; then the file, read or not.
-use Rattle.program_amend.proofs.Laws.{run-use, run-asked}
-use Rattle.program_outcome.proofs.Laws.{left-saying}
-use Rattle.text.proofs.Laws.{placed-nothing}
-use mathlib.Core.Path.{sym, _∙_}
-use borrow.Author.Tests.{not-true, not-false}
 use borrow.Author.Needs.{needs}
 use Rattle.program_amend.proofs.run.Statement.{statement}
 use Rattle.program_amend.proofs.run.Tie as tie
+use Rattle.program_amend.proofs.run.Reads as reads
+use Rattle.program_amend.proofs.run.Lts as lts
+use Rattle.program_amend.proofs.only_printed.Reads as only-printed-reads
+use Rattle.program_amend.proofs.put_use.Reads as put-use-reads
+use Rattle.program_amend.proofs.work.Reads as work-reads
+use Rattle.program_wish.proofs.put_version.Reads as put-version-reads
+use Rattle.program_wish.proofs.wish_of.Reads as wish-of-reads
+use Rattle.program_words.proofs.word.Reads as word-reads
 
+-- src/lib.rt:314:54
+word-requires : tie.Need-word-requires
+word-requires c κs = search needs
+
+-- src/lib.rt:314:9
+wish-of-requires : tie.Need-wish-of-requires
+wish-of-requires c κs = search needs
+
+-- src/lib.rt:316:44
+enum-told : tie.Need-enum-told
+enum-told c = search needs
+
+-- src/lib.rt:316:36
+put-use-requires : tie.Need-put-use-requires
+put-use-requires c κs = search needs
+
+-- src/lib.rt:316:23
+only-printed-requires : tie.Need-only-printed-requires
+only-printed-requires c κs = search needs
+
+-- src/lib.rt:317:65
+enum-told-2 : tie.Need-enum-told-2
+enum-told-2 c = search needs
+
+-- src/lib.rt:317:39
+put-version-requires : tie.Need-put-version-requires
+put-version-requires c κs = search needs
+
+-- src/lib.rt:317:26
+only-printed-requires-2 : tie.Need-only-printed-requires-2
+only-printed-requires-2 c κs = search needs
+
+-- src/lib.rt:318:47
+enum-told-3 : tie.Need-enum-told-3
+enum-told-3 c = search needs
+
+-- src/lib.rt:318:23
+work-requires : tie.Need-work-requires
+work-requires c κs = search needs
+
+-- src/lib.rt:302:1
 returns : tie.Need-returns
-returns c =
-    let test = c .before .before .before in
-    let wrong = sym (test .before .takes .ensures) ∙ not-true _ (test .if1 .taken) in
-    rw (run-use _ _ _ wrong, c .only-said .ensures) (left-saying (c .before .say-use .ensures), placed-nothing _ 0)
+returns c = ?
 
+-- src/lib.rt:302:1
 returns-2 : tie.Need-returns-2
-returns-2 c =
-    let word = c .before .before .before in
-    let read = word .before in
-    let told = read .before .before .before in
-    let ask = told .before .before in
-    let right = sym (ask .before .before .takes .ensures) ∙ not-false _ (ask .before .if1 .left) in
-    let is = sym (ask .ask-words .ensures) ∙ told .asked2 .given .1 in
-    rw (run-asked _ _ _ right, is, read .enum-told2 .given .1, c .only-said4 .ensures)
-    (left-saying (rw (word .word3 .ensures) at (c .before .say .ensures)), placed-nothing _ 0)
+returns-2 c = ?
 
+-- src/lib.rt:302:1
 returns-3 : tie.Need-returns-3
-returns-3 c =
-    let word = c .before .before .before in
-    let told = word .before in
-    let ask = told .before .before in
-    let right = sym (ask .before .before .takes .ensures) ∙ not-false _ (ask .before .if1 .left) in
-    let is = sym (ask .ask-words .ensures) ∙ told .enum-told .given .1 in
-    rw (run-asked _ _ _ right, is, c .only-said2 .ensures)
-    (left-saying (rw (word .word .ensures) at (c .before .say-no-entry .ensures)), placed-nothing _ 0)
-
-returns-4 : tie.Need-returns-4
-returns-4 c =
-    let word = c .before .before .before in
-    let told = word .before .before in
-    let ask = told .before .before in
-    let right = sym (ask .before .before .takes .ensures) ∙ not-false _ (ask .before .if1 .left) in
-    let is = sym (ask .ask-words .ensures) ∙ told .asked .given .1 in
-    rw (run-asked _ _ _ right, is, c .only-said3 .ensures)
-    (left-saying (rw (word .word2 .ensures) at (c .before .say-trouble .ensures)), placed-nothing _ 0)
-
-returns-5 : tie.Need-returns-5
-returns-5 c =
-    let word = c .before .before .before .before in
-    let front = word .before in
-    let read = front .before .before .before in
-    let told = read .before .before .before in
-    let ask = told .before .before in
-    let right = sym (ask .before .before .takes .ensures) ∙ not-false _ (ask .before .if1 .left) in
-    let is = sym (ask .ask-words .ensures) ∙ told .asked2 .given .1 in
-    rw (run-asked _ _ _ right, is, read .input .given .1)
-    (rw (word .word4 .ensures, front .front .ensures .0) at (c .change-at .ensures))
+returns-3 c = ?
 
 pub run-spec : {M : Type 1} → statement M
 run-spec =
     tie.close
-    (tie.spec (search needs) (search needs) (search needs) returns (search needs) (search needs) (search needs) (search needs) (search needs)
-    (search needs) (search needs) (search needs) (search needs) (search needs) (search needs) (search needs) (search needs) (search needs)
-    (search needs) returns-2 (search needs) (search needs) (search needs) returns-3 returns-4 returns-5)
+    (tie.spec
+    word-requires
+    wish-of-requires
+    enum-told
+    put-use-requires
+    only-printed-requires
+    enum-told-2
+    put-version-requires
+    only-printed-requires-2
+    enum-told-3
+    work-requires
+    returns
+    returns-2
+    returns-3)
