@@ -20,7 +20,7 @@ module _ (file word : List ℕ) where
   pub counted : judgement file ≡ Accepted → countOf file ≡ sitesOf file
   counted good = rw good
 
-  pub missing : judgement file ≡ Accepted → countOf file ≤ siteNamed word → sought file word ≡ Missing
+  pub missing : judgement file ≡ Accepted → countOf file ≤ siteNamed word → sought file word ≡ Missing (sitesOf file)
   unfolding sought
   missing good past = rw (good, le-leb (sitesOf file) (siteNamed word) (rw (counted good) at past))
 
