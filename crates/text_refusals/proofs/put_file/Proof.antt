@@ -18,8 +18,7 @@ returns-2 : tie.Need-returns-2
 unfolding fileText ascii
 returns-2 c =
     let call = c .before .before in
-    let first = call .before .before .before .before in
-    (
+    let first = call .before .before .before .before in (
       rw (ne-eqb _ _ (first .before .before .before .if1 .left)) (placed-after (first .put-numbered .ensures .0) (call .put-byte .ensures) (omega arith)),
       omega arith,
     )
