@@ -16,7 +16,6 @@ pub enum Input {
 pub enum Remark {
     Unread,
     Unwritten,
-    NoSite,
     NoName,
     NoEntry,
     IsStudy,
@@ -79,7 +78,7 @@ pub fn is_either(number: usize, one: usize, other: usize) -> bool
 }
 
 // Puts an argument and a colon, before what is said of it.
-fn put_opening(out: &mut [u8], word: &[u8]) -> usize
+pub fn put_opening(out: &mut [u8], word: &[u8]) -> usize
     requires { ⌜ openingMost ≤ length (now out) ⌝ }
     ensures { λ r. ⌜ Placed (now (out .entry)) 0 (opening (now (word .entry))) (now (out .exit)) r × (r ≤ openingMost) ⌝ }
 {
@@ -103,7 +102,6 @@ fn put_remark(out: &mut [u8], at: usize, remark: Remark) -> usize
     match remark {
         Remark::Unread => text::put_bytes(out, at, b"cannot be read\n"),
         Remark::Unwritten => text::put_bytes(out, at, b"cannot be written\n"),
-        Remark::NoSite => text::put_bytes(out, at, b"the study has no such site\n"),
         Remark::NoName => text::put_bytes(
             out,
             at,

@@ -41,9 +41,9 @@ jobText TooMany = ascii "a study holds at most 180 junctions\n"
 jobText Use = studyUse
 
 -- the text of the site that a word names
-unfoldable pub showAt : List ℕ → List ℕ → Outcome
-showAt word file = withSite (sought file word) word (λ site. printing (junctionText (siteEntries file site)))
+unfoldable pub showAt : List ℕ → List ℕ → List ℕ → Outcome
+showAt name word file = withSite (sought file word) name word (λ site. printing (junctionText (siteEntries file site)))
 
 -- the words: the job, a study, a site
 unfoldable pub showRun : Input → List ℕ → List ℕ → Outcome
-showRun input words area = withFile input (wordAt words 1) area (showAt (wordAt words 2))
+showRun input words area = withFile input (wordAt words 1) area (showAt (wordAt words 1) (wordAt words 2))

@@ -89,12 +89,13 @@ pub fn say_job(job: Job, said: &mut [u8; SAID_BYTES]) -> usize
 }
 
 fn show_site(
+    name: &[u8],
     word: &[u8],
     file: &[u8],
     printed: &mut [u8; PRINTED_BYTES],
     said: &mut [u8; SAID_BYTES],
 ) -> Lengths
-    ensures { λ r. ⌜ Left (showAt (now (word .entry)) (now (file .entry)))
+    ensures { λ r. ⌜ Left (showAt (now (name .entry)) (now (word .entry)) (now (file .entry)))
         (now (printed .entry)) (now (said .entry)) (now (printed .exit)) (now (said .exit)) r ⌝ }
 {
     let mut entries = [0u32; ENTRIES];
@@ -108,11 +109,11 @@ fn show_site(
                 says: 0,
             }
         }
-        Sought::Missing => {
-            program_outcome::only_said(program_site::say_site(sought, word, said))
+        Sought::Missing(_) => {
+            program_outcome::only_said(program_site::say_site(sought, name, word, said))
         }
         Sought::Bad(_, _) => {
-            program_outcome::only_said(program_site::say_site(sought, word, said))
+            program_outcome::only_said(program_site::say_site(sought, name, word, said))
         }
     }
 }
@@ -128,10 +129,10 @@ pub fn show(
     ensures { λ r. ⌜ Left (showRun input (now (words .entry)) (now (area .entry)))
         (now (printed .entry)) (now (said .entry)) (now (printed .exit)) (now (said .exit)) r ⌝ }
 {
+    let name = program_words::word(words, STUDY);
     let Input::Read(size) = input else {
-        let name = program_words::word(words, STUDY);
         return program_outcome::only_said(program_outcome::say(name, Remark::Unread, said));
     };
     let file = program_outcome::front(area, size);
-    show_site(program_words::word(words, SITE), file, printed, said)
+    show_site(name, program_words::word(words, SITE), file, printed, said)
 }
