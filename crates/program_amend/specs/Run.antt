@@ -74,7 +74,7 @@ amendSite count words file site =
 
 -- the words: a study, a site, the changes; the name of the file to write, if any
 unfoldable pub amendFile : ℕ → List ℕ → List ℕ → Outcome
-amendFile count words file = withSite (sought file (wordAt words 1)) (wordAt words 1) (amendSite count words file)
+amendFile count words file = withSite (sought file (wordAt words 1)) (wordAt words 0) (wordAt words 1) (amendSite count words file)
 
 unfoldable pub amendWork : Call → List ℕ → List ℕ → Outcome
 amendWork call words area =

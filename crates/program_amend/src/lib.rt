@@ -85,7 +85,13 @@ pub fn takes(count: usize) -> bool
 {
     let past = past_site(count);
     let changes = past / CHANGE_WORDS;
-    0 < changes && changes <= MOST_CHANGES && past % CHANGE_WORDS <= 1
+    if changes == 0 {
+        return false;
+    }
+    if MOST_CHANGES < changes {
+        return false;
+    }
+    past % CHANGE_WORDS <= 1
 }
 
 // The place of the last word, which names the file to write.
@@ -197,11 +203,11 @@ fn say_sentence(
     text::put_bytes(said, 0, program_outcome::front(sentence, size))
 }
 
-fn say_site(sought: Sought, word: &[u8], said: &mut [u8; SAID_BYTES]) -> usize
-    ensures { λ r. ⌜ Placed (now (said .entry)) 0 (soughtText sought (now (word .entry))) (now (said .exit)) r ⌝ }
+fn say_site(sought: Sought, name: &[u8], word: &[u8], said: &mut [u8; SAID_BYTES]) -> usize
+    ensures { λ r. ⌜ Placed (now (said .entry)) 0 (soughtText sought (now (name .entry)) (now (word .entry))) (now (said .exit)) r ⌝ }
 {
     let mut sentence = [0u8; program_outcome::SAID_BYTES];
-    let size = program_site::say_site(sought, word, &mut sentence);
+    let size = program_site::say_site(sought, name, word, &mut sentence);
     say_sentence(&sentence, size, said)
 }
 
@@ -227,21 +233,25 @@ fn amend_file(
         (now (printed .entry)) (now (said .entry)) (now (printed .exit)) (now (said .exit)) r ⌝ }
     ensures { λ r. ⌜ Placed (now (written .entry)) 0 (amendFile count (now (words .entry)) (now (file .entry)) .writes) (now (written .exit)) (r .writes) ⌝ }
 {
+    let name = program_words::word(words, NAME);
     let word = program_words::word(words, SITE);
     let mut entries = [0u32; ENTRIES];
     let sought = program_site::read_site(file, word, &mut entries);
-    let Sought::Site(site) = sought else {
-        return program_outcome::only_said(say_site(sought, word, said));
-    };
-    let mut changed = entries;
-    let done = program_changes::change_all(words, changes_in(count), &mut changed, said);
-    let given = Given {
-        site,
-        kept: is_kept(count),
-        made: done.made,
-        says: done.says,
-    };
-    give(file, given, &entries, &changed, printed, written)
+    match sought {
+        Sought::Site(site) => {
+            let mut changed = entries;
+            let done = program_changes::change_all(words, changes_in(count), &mut changed, said);
+            let given = Given {
+                site,
+                kept: is_kept(count),
+                made: done.made,
+                says: done.says,
+            };
+            give(file, given, &entries, &changed, printed, written)
+        }
+        Sought::Missing(_) => program_outcome::only_said(say_site(sought, name, word, said)),
+        Sought::Bad(_, _) => program_outcome::only_said(say_site(sought, name, word, said)),
+    }
 }
 
 // Puts how the program is called to the front.

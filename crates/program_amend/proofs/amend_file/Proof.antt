@@ -1,73 +1,62 @@
+-- A case for each way that looking for the site can come out; where it is there, what the changes came to is given.
+use Rattle.program_amend.proofs.Laws.{few-changes, site-there, left-nowhere, left-given}
+use Rattle.program_changes.proofs.Laws.{made-acceptable}
+use Rattle.program_amend.specs.Run.{amendFile}
+use mathlib.Core.Path.{refl, sym, _∙_}
 use borrow.Author.Needs.{needs}
 use Rattle.program_amend.proofs.amend_file.Statement.{statement}
 use Rattle.program_amend.proofs.amend_file.Tie as tie
-use Rattle.program_amend.proofs.amend_file.Reads as reads
-use Rattle.program_amend.proofs.amend_file.Lts as lts
-use Rattle.program_amend.proofs.changes_in.Reads as changes-in-reads
-use Rattle.program_amend.proofs.give.Reads as give-reads
-use Rattle.program_amend.proofs.is_kept.Reads as is-kept-reads
-use Rattle.program_amend.proofs.say_site.Reads as say-site-reads
-use Rattle.program_changes.proofs.change_all.Reads as change-all-reads
-use Rattle.program_outcome.proofs.only_said.Reads as only-said-reads
-use Rattle.program_site.proofs.read_site.Reads as read-site-reads
-use Rattle.program_words.proofs.word.Reads as word-reads
 
--- src/lib.rt:230:9
-word-requires : tie.Need-word-requires
-word-requires c κs = search needs
-
--- src/lib.rt:232:9
-read-site-requires : tie.Need-read-site-requires
-read-site-requires c κs = search needs
-
--- src/lib.rt:233:22
-enum-known-sought : tie.Need-enum-known-sought
-enum-known-sought c = search needs
-
--- src/lib.rt:234:43
-say-site-requires : tie.Need-say-site-requires
-say-site-requires c κs = search needs
-
--- src/lib.rt:234:9
-only-said-requires : tie.Need-only-said-requires
-only-said-requires c κs = search needs
-
--- src/lib.rt:234:9
-returns : tie.Need-returns
-returns c = ?
-
--- src/lib.rt:237:51
-changes-in-requires : tie.Need-changes-in-requires
-changes-in-requires c κs = search needs
-
--- src/lib.rt:237:9
 change-all-requires : tie.Need-change-all-requires
-change-all-requires c κs = ?
+change-all-requires c κs =
+    let changes = c .before .before in
+    let start = changes .before .before .before .before .before .before .before .before .before .before in
+    rw (changes .changes-in .ensures) (few-changes (start .args .count) (start .pre))
 
--- src/lib.rt:240:15
-is-kept-requires : tie.Need-is-kept-requires
-is-kept-requires c κs = search needs
-
--- src/lib.rt:244:5
 give-requires : tie.Need-give-requires
-give-requires c κs = ?
+give-requires c κs =
+    let call = c .before .before .before .before .before in
+    let told = call .before .before .before .before .before in
+    let read = told .before .before in
+    let came = call .change-all .ensures in (
+      site-there _ _ (sym (read .read-site .ensures .0) ∙ told .sought .given .1),
+      λ made. rw (came .entries) (made-acceptable _ _ _ _ (sym (came .made) ∙ made)),
+    )
 
--- src/lib.rt:217:1
+returns : tie.Need-returns
+returns c =
+    let kept = c .before .before .before .before .before in
+    let call = kept .before in
+    let changes = call .before .before .before in
+    let told = changes .before .before in
+    let read = told .before .before in
+    let word = read .before .before in
+    let start = word .before .before .before .before in
+    let is = sym (read .read-site .ensures .0) ∙ told .sought .given .1 in
+    let came = rw (read .read-site .ensures .1, is, changes .changes-in .ensures) at (call .change-all .ensures) in
+    let given = rw (read .read-site .ensures .1, is, kept .is-kept .ensures) at (c .give .ensures) in
+    left-given (start .args .count) (start .args .words .now) (start .args .file .now) (rw (word .word2 .ensures) at is) came
+    (given .0) (given .1 .0) (given .1 .1)
+
 returns-2 : tie.Need-returns-2
-returns-2 c = ?
+unfolding amendFile
+returns-2 c =
+    let told = c .before .before .before in
+    let read = told .before .before in
+    let word = read .before .before in
+    rw (← word .word2 .ensures, ← word .before .word .ensures, ← read .read-site .ensures .0, c .only-said .ensures)
+    (left-nowhere (read .read-site .result) _ _ _ (rw (told .enum-told .given .1) refl) (c .before .say-site .ensures))
+
+returns-3 : tie.Need-returns-3
+unfolding amendFile
+returns-3 c =
+    let told = c .before .before .before in
+    let read = told .before .before in
+    let word = read .before .before in
+    rw (← word .word2 .ensures, ← word .before .word .ensures, ← read .read-site .ensures .0, c .only-said2 .ensures)
+    (left-nowhere (read .read-site .result) _ _ _ (rw (told .enum-told2 .given .1) refl) (c .before .say-site2 .ensures))
 
 pub amend-file-spec : {M : Type 1} → statement M
 amend-file-spec =
     tie.close
-    (tie.spec
-    word-requires
-    read-site-requires
-    enum-known-sought
-    say-site-requires
-    only-said-requires
-    returns
-    changes-in-requires
-    change-all-requires
-    is-kept-requires
-    give-requires
-    returns-2)
+    (tie.spec (search needs) (search needs) (search needs) (search needs) (search needs) change-all-requires (search needs) give-requires (search needs) (search needs) (search needs) (search needs) (search needs) (search needs) returns returns-2 returns-3)

@@ -1,33 +1,29 @@
+-- Without a change made nothing is given; with one, what the two calls give.
+use Rattle.text.proofs.Laws.{placed-nothing}
+use mathlib.Core.Path.{refl}
+use borrow.Author.Tests.{not-true, not-false}
 use borrow.Author.Needs.{needs}
 use Rattle.program_amend.proofs.give.Statement.{statement}
 use Rattle.program_amend.proofs.give.Tie as tie
-use Rattle.program_amend.proofs.give.Reads as reads
-use Rattle.program_amend.proofs.give.Lts as lts
-use Rattle.program_amend.proofs.print_changes.Reads as print-changes-reads
-use Rattle.program_amend.proofs.write_site.Reads as write-site-reads
-use Rattle.program_outcome.proofs.only_said.Reads as only-said-reads
 
--- src/lib.rt:178:9
-only-said-requires : tie.Need-only-said-requires
-only-said-requires c κs = search needs
-
--- src/lib.rt:178:9
 returns : tie.Need-returns
-returns c = ?
+returns c =
+    let test = c .before in
+    let none = not-true (test .before .before .before .args .given .made) (test .if1 .taken) in
+    rw (none, c .only-said .ensures) (placed-nothing _ 0, (placed-nothing _ 0, refl))
 
--- src/lib.rt:180:9
 print-changes-requires : tie.Need-print-changes-requires
-print-changes-requires c κs = ?
+print-changes-requires c κs = c .before .before .before .before .pre .1 (not-false _ (c .before .if1 .left))
 
--- src/lib.rt:181:9
 write-site-requires : tie.Need-write-site-requires
-write-site-requires c κs = search needs
+write-site-requires c κs = c .before .before .before .before .before .before .pre .0
 
--- src/lib.rt:161:1
 returns-2 : tie.Need-returns-2
-returns-2 c = ?
+returns-2 c =
+    let print = c .before .before in
+    let test = print .before .before in
+    let some = not-false (test .before .before .before .args .given .made) (test .if1 .left) in
+    rw some (print .print-changes .ensures, (c .write-site .ensures, refl))
 
 pub give-spec : {M : Type 1} → statement M
-give-spec =
-    tie.close
-    (tie.spec only-said-requires returns print-changes-requires write-site-requires returns-2)
+give-spec = tie.close (tie.spec (search needs) returns print-changes-requires write-site-requires returns-2)

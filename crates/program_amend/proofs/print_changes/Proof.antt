@@ -1,42 +1,28 @@
+-- Both sheets are filled; that of refused entries is not listed.
+use Rattle.program_amend.proofs.Laws.{left-twice}
+use Rattle.sheet.proofs.Sized.{fill-answers, fill-leaves}
+use Rattle.layout.specs.Sheet.{sheetCount}
+use Rattle.entries.specs.Judging.{judged}
+use Rattle.procedure.specs.Sheet.{sheet}
+use Prim.Native.Nat.{ℕ}
+use mathlib.Core.Path.{refl, _∙_}
+use mathlib.Core.List.{[]}
+use lib.ListN.{replicate}
 use borrow.Author.Needs.{needs}
 use Rattle.program_amend.proofs.print_changes.Statement.{statement}
 use Rattle.program_amend.proofs.print_changes.Tie as tie
-use Rattle.program_amend.proofs.print_changes.Reads as reads
-use Rattle.program_amend.proofs.print_changes.Lts as lts
-use Rattle.program_amend.proofs.list_changes.Reads as list-changes-reads
-use Rattle.sheet.proofs.fill.Reads as fill-reads
 
--- src/lib.rt:138:39
-slice-aggregate-fill : tie.Need-slice-aggregate-fill
-slice-aggregate-fill c = search needs
-
--- src/lib.rt:138:9
-fill-requires : tie.Need-fill-requires
-fill-requires c κs = search needs
-
--- src/lib.rt:139:26
-slice-aggregate-fill-2 : tie.Need-slice-aggregate-fill-2
-slice-aggregate-fill-2 c = search needs
-
--- src/lib.rt:139:5
-fill-requires-2 : tie.Need-fill-requires-2
-fill-requires-2 c κs = search needs
-
--- src/lib.rt:140:5
-list-changes-requires : tie.Need-list-changes-requires
-list-changes-requires c κs = search needs
-
--- src/lib.rt:128:1
 returns : tie.Need-returns
-returns c = ?
+returns c =
+    let two = c .before .before .before .before .before in
+    let one = two .before .before .before .before in
+    let start = one .before .before .before in
+    let e = start .args .entries .now in
+    let blank = replicate {A = ℕ} sheetCount 0 in
+    let answer = one .fill .ensures .0 ∙ fill-answers e blank refl in
+    let before = one .fill .ensures .1 ∙ fill-leaves e blank refl in
+    let after = rw (start .pre) at (two .fill2 .ensures .1 ∙ fill-leaves (start .args .changed .now) blank refl) in
+    rw (answer, before, after, left-twice (judged e) (sheet e) blank []) at (c .list-changes .ensures)
 
 pub print-changes-spec : {M : Type 1} → statement M
-print-changes-spec =
-    tie.close
-    (tie.spec
-    slice-aggregate-fill
-    fill-requires
-    slice-aggregate-fill-2
-    fill-requires-2
-    list-changes-requires
-    returns)
+print-changes-spec = tie.close (tie.spec (search needs) (search needs) (search needs) (search needs) (search needs) returns)

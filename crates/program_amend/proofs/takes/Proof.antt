@@ -1,21 +1,25 @@
+use Prim.Native.Nat.{_/_, _<_}
+use Rattle.program_changes.specs.Changes.{changeWords}
+use borrow.Author.Tests.{lt-ltb, le-leb, lt-leb}
+use native.Mathlib.Omega.{arith}
 use borrow.Author.Needs.{needs}
 use Rattle.program_amend.proofs.takes.Statement.{statement}
 use Rattle.program_amend.proofs.takes.Tie as tie
-use Rattle.program_amend.proofs.takes.Reads as reads
-use Rattle.program_amend.proofs.takes.Lts as lts
-use Rattle.program_amend.proofs.past_site.Reads as past-site-reads
 
--- src/lib.rt:86:9
-past-site-requires : tie.Need-past-site-requires
-past-site-requires c κs = search needs
-
--- src/lib.rt:83:1
 returns : tie.Need-returns
-returns c = ?
+returns c = rw (← c .before .past-site .ensures, c .if1 .taken)
 
--- src/lib.rt:83:1
 returns-2 : tie.Need-returns-2
-returns-2 c = ?
+returns-2 c =
+    let past = c .before .before in
+    let some : 0 < past .past-site .result / changeWords = omega (arith, c .before .if1 .left) in
+    rw (← past .past-site .ensures, lt-ltb 0 _ some, lt-leb _ _ (c .if2 .taken))
+
+returns-3 : tie.Need-returns-3
+returns-3 c =
+    let past = c .before .before in
+    let some : 0 < past .past-site .result / changeWords = omega (arith, c .before .if1 .left) in
+    rw (← past .past-site .ensures, lt-ltb 0 _ some, le-leb _ _ (c .if2 .left))
 
 pub takes-spec : {M : Type 1} → statement M
-takes-spec = tie.close (tie.spec past-site-requires returns returns-2)
+takes-spec = tie.close (tie.spec (search needs) returns returns-2 returns-3)

@@ -1,21 +1,16 @@
-use borrow.Author.Needs.{needs}
+use Rattle.text.proofs.Laws.{placed-nothing}
+use native.Mathlib.Omega.{arith}
 use Rattle.program_amend.proofs.write_site.Statement.{statement}
 use Rattle.program_amend.proofs.write_site.Tie as tie
-use Rattle.program_amend.proofs.write_site.Reads as reads
-use Rattle.program_amend.proofs.write_site.Lts as lts
-use Rattle.study_changed.proofs.put.Reads as put-reads
 
--- src/lib.rt:155:9
 put-requires : tie.Need-put-requires
-put-requires c κs = search needs
+put-requires c κs = (c .before .before .before .before .pre, omega arith)
 
--- src/lib.rt:155:9
 returns : tie.Need-returns
-returns c = ?
+returns c = rw (c .before .before .before .if1 .taken) (c .put .ensures)
 
--- src/lib.rt:144:1
 returns-2 : tie.Need-returns-2
-returns-2 c = ?
+returns-2 c = rw (c .if1 .left) (placed-nothing _ 0)
 
 pub write-site-spec : {M : Type 1} → statement M
 write-site-spec = tie.close (tie.spec put-requires returns returns-2)
