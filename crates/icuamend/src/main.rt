@@ -1,9 +1,9 @@
 // Changes one entry of a site of a study file, and prints every cell of its sheet that changes. What is printed, written and
 // said is the one call's to promise; the rest is input and output.
-use libc::STDOUT_FILENO;
 use program_outcome::AREA_BYTES;
 use program_outcome::Call;
 use program_outcome::Input;
+use program_outcome::Lengths;
 
 // Room for a study, a site, a title, a kind, a value and the file to write.
 const WORDS_BYTES: usize = 6 * program_io::WORD_ROOM;
@@ -16,15 +16,18 @@ fn read(count: usize, words: &[u8], area: &mut [u8; AREA_BYTES]) -> Input {
     Input::Failed
 }
 
-fn print(printed: &[u8; program_amend::PRINTED_BYTES], size: usize) {
-    program_io::put_out(STDOUT_FILENO, printed, size);
-}
-
-fn write(words: &[u8], written: &[u8; program_amend::WRITTEN_BYTES], size: usize) {
-    program_io::write_out(
+fn give(
+    words: &[u8],
+    printed: &[u8; program_amend::PRINTED_BYTES],
+    written: &[u8; program_amend::WRITTEN_BYTES],
+    lengths: Lengths,
+) {
+    program_io::give(
+        b"icuamend",
         program_words::word(words, program_amend::NEW),
-        written,
-        size,
+        program_outcome::front(printed, lengths.prints),
+        program_outcome::front(written, lengths.writes),
+        lengths.says == 0,
     );
 }
 
@@ -37,9 +40,8 @@ fn run(words: &[u8]) {
     let input = read(arguments, words, &mut area);
     let call = Call { arguments, input };
     let lengths = program_amend::run(call, words, &area, &mut printed, &mut written, &mut said);
-    print(&printed, lengths.prints);
-    write(words, &written, lengths.writes);
     program_io::say(&said, lengths.says);
+    give(words, &printed, &written, lengths);
 }
 
 fn main() {

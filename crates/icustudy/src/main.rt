@@ -1,6 +1,5 @@
 // Makes a study file of junctions' texts, and prints a study's sites as texts. What is printed, written and said is the calls'
 // to promise; the rest is input and output.
-use libc::STDOUT_FILENO;
 use program_make::ALL_ENTRIES;
 use program_outcome::AREA_BYTES;
 use program_outcome::SAID_BYTES;
@@ -38,7 +37,14 @@ fn add_texts(texts: u32, all: &mut [u32; ALL_ENTRIES], said: &mut [u8; SAID_BYTE
 }
 
 fn write_out(words: &[u8], written: &[u8; program_make::WRITTEN_BYTES], size: usize) {
-    program_io::write_out(program_words::word(words, STUDY), written, size);
+    let name = program_words::word(words, STUDY);
+    program_io::give(
+        b"icustudy",
+        name,
+        b"",
+        program_outcome::front(written, size),
+        true,
+    );
 }
 
 fn write(words: &[u8], texts: u32, all: &[u32; ALL_ENTRIES]) {
@@ -59,7 +65,7 @@ fn make(words: &[u8], texts: u32) {
 }
 
 fn print(printed: &[u8; program_study::PRINTED_BYTES], size: usize) {
-    program_io::put_out(STDOUT_FILENO, printed, size);
+    program_io::print(b"icustudy", printed, size);
 }
 
 fn show(words: &[u8]) {
