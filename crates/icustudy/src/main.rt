@@ -79,9 +79,11 @@ fn show(words: &[u8]) {
 }
 
 fn tell(job: Job) {
+    let mut printed = [0u8; program_study::PRINTED_BYTES];
     let mut said = [0u8; SAID_BYTES];
-    let says = program_study::say_job(job, &mut said);
-    program_io::say(&said, says);
+    let lengths = program_study::tell(job, &mut printed, &mut said);
+    print(&printed, lengths.prints);
+    program_io::say(&said, lengths.says);
 }
 
 fn run(words: &[u8]) {
@@ -92,6 +94,8 @@ fn run(words: &[u8]) {
         Job::Show => show(words),
         Job::TooMany => tell(job),
         Job::Use => tell(job),
+        Job::Help => tell(job),
+        Job::Version => tell(job),
     }
 }
 

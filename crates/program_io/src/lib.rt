@@ -123,7 +123,11 @@ fn find_open(file: i32, area: &mut [u8]) -> Found {
 }
 
 // What there is where a file is to be written; it stays as it is. It is opened for writing, too, since it may be protected.
+// No file has a name of no bytes.
 fn find(name: &[u8], area: &mut [u8]) -> Found {
+    if name.len() == 0 {
+        return Found::Closed;
+    }
     if is_link(name) {
         return Found::Link;
     }
