@@ -407,7 +407,7 @@ def targets(b):
         refused(b, name, IS_LINK)
     os.mkdir(b.path("folder"))
     os.mkfifo(b.path("pipe"))
-    for name in ("folder", "folder/", ".", "pipe", "missing/new.icus", "k2.txt/new.icus", "/proc/x.icus", "", "n" * 250, "folder/" * 600 + "new.icus"):
+    for name in ("folder", "folder/", ".", "pipe", "missing/new.icus", "k2.txt/new.icus", "/proc/x.icus", "", "n" * 250, "./" * 2042 + "new.icus"):
         refused(b, name, UNWRITTEN)
     refused(b, "/dev/null", STAYS)
     # the study's name forgotten: the first of three texts stays
@@ -455,6 +455,18 @@ def writes(b):
     for program, words in writers(b, "other.icus"):
         b.same("again", b.run_so(0, program, words)[1], b"")
     b.same("made anew", b.get("other.icus"), study_of([K2]))
+
+
+def protected(b):
+    """A study that may not be written, in a folder in which files may be made: it stays."""
+    writers(b, "in.icus")
+    b.put("locked.icus", b.get("in.icus"))
+    os.chmod(b.path("locked.icus"), 0o444)
+    os.chmod(b.folder, 0o777)
+    try:
+        refused(b, "locked.icus", UNWRITTEN, before=lambda: os.setuid(65534) if os.geteuid() == 0 else None)
+    except PermissionError:
+        pass  # the superuser may write it, and nobody else can reach the programs
 
 
 def umask():
@@ -514,7 +526,7 @@ def version():
 
 def kept(b):
     """At the table nothing is lost: files in the way, writes and output that fail; and the two programs that read or tell besides."""
-    for part in (targets, writes, outputs, listed, wished):
+    for part in (targets, writes, protected, outputs, listed, wished):
         with tempfile.TemporaryDirectory(dir=b.folder) as folder:
             bench = Bench(folder, part.__name__)
             part(bench)
