@@ -9,7 +9,8 @@ use Rattle.text.specs.Text.{ascii, Placed}
 use Rattle.program_outcome.specs.declared.Input.{Input}
 use Rattle.program_outcome.specs.declared.Input.the-variants.{Read, Failed}
 use Rattle.program_outcome.specs.declared.Remark.{Remark}
-use Rattle.program_outcome.specs.declared.Remark.the-variants.{Unread, Unwritten, NoSite, NoName, NoEntry, IsStudy, InTheWay, Stays, IsLink, NoInput, NoOutput}
+use Rattle.program_outcome.specs.declared.Remark.the-variants.{Unread, Unwritten, NoSite, NoName, NoEntry, IsStudy}
+use Rattle.program_outcome.specs.declared.Remark.the-variants.{InTheWay, Stays, IsLink, NoInput, NoOutput}
 use Rattle.program_outcome.specs.declared.Lengths.{Lengths}
 
 -- what goes to standard output, to a file, and to standard error; a file is written where there is something for it
