@@ -20,6 +20,8 @@ pub enum Remark {
     NoEntry,
     IsStudy,
     InTheWay,
+    Stays,
+    IsLink,
     NoInput,
     NoOutput,
 }
@@ -117,6 +119,16 @@ fn put_remark(out: &mut [u8], at: usize, remark: Remark) -> usize
             out,
             at,
             b"there is such a file and it is no study file, so it stays as it is: name another\n",
+        ),
+        Remark::Stays => text::put_bytes(
+            out,
+            at,
+            b"stays as it was, since not all that was asked for was done: name a new file\n",
+        ),
+        Remark::IsLink => text::put_bytes(
+            out,
+            at,
+            b"this is a symbolic link, which stays as it is: name its file\n",
         ),
         Remark::NoInput => text::put_bytes(out, at, b"standard input cannot be read\n"),
         Remark::NoOutput => text::put_bytes(out, at, b"standard output cannot be written\n"),
