@@ -39,9 +39,10 @@ PUBLIC = {
     "program_words": ["word"],
     "program_sheet": ["takes", "run"],
     "program_amend": ["takes", "run"],
-    "program_study": ["job_of", "texts_in", "say_job", "show"],
+    "program_study": ["job_of", "texts_in", "tell", "show"],
     "program_make": ["add", "make"],
-    "program_list": ["run", "say_unprinted"],
+    "program_list": ["takes", "is_named", "run"],
+    "program_target": ["judge"],
 }
 
 NAME = r"[^\s(){}\[\],;.⌜⌝⟦⟧λ∷≡×→≤<:=+*/%-][^\s(){}\[\],;.⌜⌝⟦⟧λ∷≡×→:=+*/%]*"

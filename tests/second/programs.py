@@ -2,12 +2,14 @@
 
     python3 tests/second/programs.py PART
 
-PART is one of: usage, samples, junctions, runs, typed, damaged, studies, amendments. Programs are taken from target/bin and samples from
-samples/table, under the project's root, where this is to be started. The last line counts what was compared.
+PART is one of: usage, samples, junctions, runs, typed, damaged, studies, amendments, kept. Programs are taken from target/bin and samples
+from samples/table, under the project's root, where this is to be started. The last line counts what was compared.
 """
 
 import os
 import random
+import resource
+import signal
 import subprocess
 import sys
 import tempfile
@@ -52,6 +54,26 @@ class Bench:
         done = subprocess.run([os.path.join(BIN, program)] + list(words), capture_output=True, timeout=60)
         self.same("exit status of %s" % program, done.returncode, 0)
         return done.stdout, done.stderr
+
+    def run_so(self, status, program, words, before=None, out=subprocess.PIPE, source=None):
+        """(standard output, standard error) of a program that ends with this status, after a step of its own before it begins."""
+        done = subprocess.run([os.path.join(BIN, program)] + list(words), stdin=source, stdout=out, stderr=subprocess.PIPE,
+                              preexec_fn=before, cwd=self.folder, timeout=60)
+        self.same("exit status of %s" % program, done.returncode, status)
+        return done.stdout or b"", done.stderr
+
+    def held(self):
+        """Everything in the folder: each file's bytes, each link's text."""
+        found = {}
+        for name in os.listdir(self.folder):
+            path = self.path(name)
+            if os.path.islink(path):
+                found[name] = os.readlink(path)
+            elif os.path.isfile(path):
+                found[name] = self.get(name)
+            else:
+                found[name] = None
+        return found
 
 
 # ---------------------------------------------------------------- what is expected
@@ -341,8 +363,178 @@ def amendments(b):
         b.same("old study", b.run("icuamend", *words[:-1]), wanted)
 
 
+# What is said where a file or standard output is not written.
+STAYS = b": there is such a file and it is no study file, so it stays as it is: name another\n"
+UNWRITTEN = b": cannot be written\n"
+IS_LINK = b": this is a symbolic link, which stays as it is: name its file\n"
+NO_OUTPUT = b": standard output cannot be written\n"
+K2 = table.samples()[1][1]
+CHANGE = ["EBT", "volume", "450"]
+
+
+def writers(b, new):
+    """Each way in which a study is written to this name, after the study in.icus of K1 and K2 was made."""
+    b.put("in.icus", study_of([junctions.K1, K2]))
+    b.put("k2.txt", table.write_text(K2).encode())
+    return ("icuamend", ["in.icus", "1"] + CHANGE + [new]), ("icustudy", ["make", new, "k2.txt"])
+
+
+def changed():
+    """What icuamend prints of that change, and the study with it."""
+    before = icu2003.fill(junctions.K1)
+    after = list(before)
+    assert icu2003.amend(after, table.NAMED[tuple(CHANGE[:2])], int(CHANGE[2])) == (0, 0)
+    return table.change_text(before, after).encode(), study_of([after[:81], K2])
+
+
+def refused(b, new, sentence, status=0, **how):
+    """Nothing is printed, one sentence is said, and everything in the folder stays."""
+    for program, words in writers(b, new):
+        was = b.held()
+        b.same("refused " + new, b.run_so(status, program, words, **how), (b"", new.encode() + sentence))
+        b.same("all stays", b.held(), was)
+
+
+def targets(b):
+    """What can stand where a study is to be written."""
+    study = study_of([junctions.K1])
+    for data in (table.write_text(junctions.K1).encode(), b"", b"ICUS", study[:-1], study + b"\0", b"icus" + study[4:], study + study,
+                 b"\0" * 70000, study + b" " * 70000):
+        b.put("there", data)
+        refused(b, "there", STAYS)
+    for name, text in (("to-study", "in.icus"), ("to-text", "k2.txt"), ("to-nothing", "nowhere"), ("to-itself", "to-itself")):
+        os.symlink(text, b.path(name))
+        refused(b, name, IS_LINK)
+    os.mkdir(b.path("folder"))
+    os.mkfifo(b.path("pipe"))
+    for name in ("folder", "folder/", ".", "pipe", "missing/new.icus", "k2.txt/new.icus", "/proc/x.icus", "", "n" * 250, "./" * 2042 + "new.icus"):
+        refused(b, name, UNWRITTEN)
+    refused(b, "/dev/null", STAYS)
+    # the study's name forgotten: the first of three texts stays
+    for name in ("oneway.txt", "tee.txt", "arterial.txt"):
+        b.put(name, table.write_text(junctions.K1).encode())
+    was = b.held()
+    b.same("forgotten", b.run_so(0, "icustudy", ["make", "oneway.txt", "tee.txt", "arterial.txt"]), (b"", b"oneway.txt" + STAYS))
+    b.same("all stays", b.held(), was)
+
+
+def limited():
+    """A file may have 100 bytes, and a write past them fails."""
+    signal.signal(signal.SIGXFSZ, signal.SIG_IGN)
+    resource.setrlimit(resource.RLIMIT_FSIZE, (100, 100))
+
+
+def ended():
+    """A file may have 100 bytes, and a write past them ends the program."""
+    resource.setrlimit(resource.RLIMIT_FSIZE, (100, 100))
+
+
+def writes(b):
+    """Writes that are done, that fail and that are ended midway."""
+    printed, study = changed()
+    for new in ("in.icus", "new.icus"):
+        refused(b, new, UNWRITTEN, before=limited)
+    for program, words in writers(b, "in.icus"):
+        was = b.held()
+        b.same("ended", b.run_so(-signal.SIGXFSZ, program, words, before=ended)[0], b"")
+        now = b.held()
+        b.same("left beside", len(now.pop("in.icus.part0", b"")), 100)
+        b.same("all else stays", now, was)
+        os.remove(b.path("in.icus.part0"))
+    for left in range(10):
+        # files that were left beside stay; the next number is taken
+        (amend, words), _ = writers(b, "in.icus")
+        was = b.held()
+        b.same("in place", b.run_so(0, amend, words), (printed, b""))
+        b.same("only the study", b.held(), dict(was, **{"in.icus": study}))
+        b.same("rights", os.stat(b.path("in.icus")).st_mode & 0o777, 0o666 & ~umask())
+        b.put("in.icus.part%d" % left, b"left")
+    refused(b, "in.icus", UNWRITTEN)
+    b.same("a new name", b.run_so(0, amend, words[:-1] + ["other.icus"]), (printed, b""))
+    b.same("its study", b.get("other.icus"), study)
+    for program, words in writers(b, "other.icus"):
+        b.same("again", b.run_so(0, program, words)[1], b"")
+    b.same("made anew", b.get("other.icus"), study_of([K2]))
+
+
+def protected(b):
+    """A study that may not be written, in a folder in which files may be made: it stays."""
+    writers(b, "in.icus")
+    b.put("locked.icus", b.get("in.icus"))
+    os.chmod(b.path("locked.icus"), 0o444)
+    os.chmod(b.folder, 0o777)
+    try:
+        refused(b, "locked.icus", UNWRITTEN, before=lambda: os.setuid(65534) if os.geteuid() == 0 else None)
+    except PermissionError:
+        pass  # the superuser may write it, and nobody else can reach the programs
+
+
+def umask():
+    mask = os.umask(0)
+    os.umask(mask)
+    return mask
+
+
+def outputs(b):
+    """Standard output that is full or closed: said by each program, and no file is written."""
+    _, _ = writers(b, "in.icus")
+    for program, words in (("icusheet", ["k2.txt"]), ("icusheet", ["in.icus", "2"]), ("icuamend", ["in.icus", "1"] + CHANGE),
+                           ("icuamend", ["in.icus", "1"] + CHANGE + ["in.icus"]), ("icuamend", ["in.icus", "1"] + CHANGE + ["fresh.icus"]),
+                           ("icustudy", ["show", "in.icus", "1"]), ("icustudy", ["--help"]), ("iculist", ["in.icus"]), ("iculist", ["--version"])):
+        was = b.held()
+        with open("/dev/full", "wb") as full:
+            b.same("full", b.run_so(0, program, words, out=full), (b"", program.encode() + NO_OUTPUT))
+        b.same("closed", b.run_so(0, program, words, before=lambda: os.close(1), out=None), (b"", program.encode() + NO_OUTPUT))
+        b.same("all stays", b.held(), was)
+    # nothing to print: a study is made all the same
+    b.same("made", b.run_so(0, "icustudy", ["make", "made.icus", "k2.txt"], before=lambda: os.close(1), out=None), (b"", b""))
+    b.same("its study", b.get("made.icus"), study_of([K2]))
+
+
+def listed(b):
+    """iculist of a file that is named, and of standard input."""
+    usage_of = b"usage: iculist "
+    for data in (study_of([junctions.K1, K2]), b"", b"ICUS", b"\0" * 70000):
+        path = b.put("listed.icus", data)
+        wanted = icu2003.listing(data).encode(), b""
+        b.same("named", b.run("iculist", path), wanted)
+        with open(path, "rb") as source:
+            b.same("standard input", b.run_so(0, "iculist", [], source=source), wanted)
+    for name in ("nothing", ".", "", "listed.icus/x"):
+        b.same("unread", b.run_so(0, "iculist", [name]), (b"", name.encode() + b": cannot be read\n"))
+    b.same("no input", b.run_so(0, "iculist", [], before=lambda: os.close(0)), (b"", b"iculist: standard input cannot be read\n"))
+    for words in (["listed.icus", "listed.icus"], ["--help", "--help"], ["a"] * 5):
+        out, said = b.run_so(0, "iculist", words)
+        b.same("usage", (out, said.startswith(usage_of)), (b"", True))
+
+
+def wished(b):
+    """What is asked for in place of work, printed and not said; not where there are other words beside it."""
+    for program in ("icustudy", "iculist"):
+        _, told = b.run_so(0, program, ["a", "b"])
+        b.same("help", b.run(program, "--help"), (told, b""))
+        b.same("version", b.run(program, "--version"), (version(), b""))
+        for words in (["--help", "x"], ["--version", "--help"], ["x", "--version"]):
+            b.same("no wish", b.run_so(0, program, words), (b"", told))
+
+
+def version():
+    """The header's version, as a program prints it."""
+    with open("include/icu.h") as f:
+        return ("icu2003 %s\n" % f.read().split('#define ICU2003_VERSION "')[1].split('"')[0]).encode()
+
+
+def kept(b):
+    """At the table nothing is lost: files in the way, writes and output that fail; and the two programs that read or tell besides."""
+    for part in (targets, writes, protected, outputs, listed, wished):
+        with tempfile.TemporaryDirectory(dir=b.folder) as folder:
+            bench = Bench(folder, part.__name__)
+            part(bench)
+            b.count += bench.count
+
+
 PARTS = {"usage": usage, "samples": samples, "junctions": named, "runs": runs, "typed": typed, "damaged": damaged_texts, "studies": studies,
-         "amendments": amendments}
+         "amendments": amendments, "kept": kept}
 
 
 def main(part):

@@ -1,12 +1,13 @@
-// Changes one entry of a site of a study file, and prints every cell of its sheet that changes. What is printed, written and
+// Changes entries of a site of a study file, and prints every cell of its sheet that changes. What is printed, written and
 // said is the one call's to promise; the rest is input and output.
-use libc::STDOUT_FILENO;
+use libc::STDERR_FILENO;
 use program_outcome::AREA_BYTES;
 use program_outcome::Call;
 use program_outcome::Input;
+use program_outcome::Lengths;
 
-// Room for a study, a site, a title, a kind, a value and the file to write.
-const WORDS_BYTES: usize = 6 * program_io::WORD_ROOM;
+// Room for a study, a site, the changes and the file to write.
+const WORDS_BYTES: usize = program_amend::MOST_WORDS * program_io::WORD_ROOM;
 
 // Reads the file that the first word names, if there are as many arguments as there should be.
 fn read(count: usize, words: &[u8], area: &mut [u8; AREA_BYTES]) -> Input {
@@ -16,15 +17,22 @@ fn read(count: usize, words: &[u8], area: &mut [u8; AREA_BYTES]) -> Input {
     Input::Failed
 }
 
-fn print(printed: &[u8; program_amend::PRINTED_BYTES], size: usize) {
-    program_io::put_out(STDOUT_FILENO, printed, size);
+fn say(said: &[u8; program_amend::SAID_BYTES], size: usize) {
+    program_io::put_out(STDERR_FILENO, said, size);
 }
 
-fn write(words: &[u8], written: &[u8; program_amend::WRITTEN_BYTES], size: usize) {
-    program_io::write_out(
-        program_words::word(words, program_amend::NEW),
-        written,
-        size,
+fn give(
+    words: &[u8],
+    printed: &[u8; program_amend::PRINTED_BYTES],
+    written: &[u8; program_amend::WRITTEN_BYTES],
+    lengths: Lengths,
+) {
+    program_io::give(
+        b"icuamend",
+        program_words::word(words, program_amend::new_place(os::arg_count())),
+        program_outcome::front(printed, lengths.prints),
+        program_outcome::front(written, lengths.writes),
+        lengths.says == 0,
     );
 }
 
@@ -32,14 +40,13 @@ fn run(words: &[u8]) {
     let mut area = [0u8; AREA_BYTES];
     let mut printed = [0u8; program_amend::PRINTED_BYTES];
     let mut written = [0u8; program_amend::WRITTEN_BYTES];
-    let mut said = [0u8; program_outcome::SAID_BYTES];
+    let mut said = [0u8; program_amend::SAID_BYTES];
     let arguments = os::arg_count();
     let input = read(arguments, words, &mut area);
     let call = Call { arguments, input };
     let lengths = program_amend::run(call, words, &area, &mut printed, &mut written, &mut said);
-    print(&printed, lengths.prints);
-    write(words, &written, lengths.writes);
-    program_io::say(&said, lengths.says);
+    say(&said, lengths.says);
+    give(words, &printed, &written, lengths);
 }
 
 fn main() {

@@ -1,6 +1,5 @@
 // Prints the worksheet of a junction: of its text, or of a site of a study file. What is printed and said is the one call's
 // to promise; the rest is input and output.
-use libc::STDOUT_FILENO;
 use program_outcome::AREA_BYTES;
 use program_outcome::Call;
 use program_outcome::Input;
@@ -17,7 +16,7 @@ fn read(count: usize, words: &[u8], area: &mut [u8; AREA_BYTES]) -> Input {
 }
 
 fn print(printed: &[u8; program_sheet::PRINTED_BYTES], size: usize) {
-    program_io::put_out(STDOUT_FILENO, printed, size);
+    program_io::print(b"icusheet", printed, size);
 }
 
 fn run(words: &[u8]) {

@@ -1,6 +1,5 @@
 // Makes a study file of junctions' texts, and prints a study's sites as texts. What is printed, written and said is the calls'
 // to promise; the rest is input and output.
-use libc::STDOUT_FILENO;
 use program_make::ALL_ENTRIES;
 use program_outcome::AREA_BYTES;
 use program_outcome::SAID_BYTES;
@@ -38,7 +37,14 @@ fn add_texts(texts: u32, all: &mut [u32; ALL_ENTRIES], said: &mut [u8; SAID_BYTE
 }
 
 fn write_out(words: &[u8], written: &[u8; program_make::WRITTEN_BYTES], size: usize) {
-    program_io::write_out(program_words::word(words, STUDY), written, size);
+    let name = program_words::word(words, STUDY);
+    program_io::give(
+        b"icustudy",
+        name,
+        b"",
+        program_outcome::front(written, size),
+        true,
+    );
 }
 
 fn write(words: &[u8], texts: u32, all: &[u32; ALL_ENTRIES]) {
@@ -59,7 +65,7 @@ fn make(words: &[u8], texts: u32) {
 }
 
 fn print(printed: &[u8; program_study::PRINTED_BYTES], size: usize) {
-    program_io::put_out(STDOUT_FILENO, printed, size);
+    program_io::print(b"icustudy", printed, size);
 }
 
 fn show(words: &[u8]) {
@@ -73,9 +79,11 @@ fn show(words: &[u8]) {
 }
 
 fn tell(job: Job) {
+    let mut printed = [0u8; program_study::PRINTED_BYTES];
     let mut said = [0u8; SAID_BYTES];
-    let says = program_study::say_job(job, &mut said);
-    program_io::say(&said, says);
+    let lengths = program_study::tell(job, &mut printed, &mut said);
+    print(&printed, lengths.prints);
+    program_io::say(&said, lengths.says);
 }
 
 fn run(words: &[u8]) {
@@ -86,6 +94,8 @@ fn run(words: &[u8]) {
         Job::Show => show(words),
         Job::TooMany => tell(job),
         Job::Use => tell(job),
+        Job::Help => tell(job),
+        Job::Version => tell(job),
     }
 }
 

@@ -2,7 +2,7 @@
 use Prim.Native.Nat.{ℕ, zero, suc, _+_, _*_, _-_, _/_, _%_}
 use mathlib.Core.Bool.{Bool, cond, not, _&&_, _||_}
 use mathlib.Core.List.{List, [], _++_}
-use lib.ListN.{getD}
+use lib.ListN.{length, getD}
 use lib.Dec.{eqb, leb, ltb}
 use Rattle.lists.specs.Lists.{table}
 use Rattle.text.specs.Text.{ascii}
@@ -10,7 +10,7 @@ use Rattle.layout.specs.Entries.{approachCount}
 use Rattle.layout.specs.Sheet.{icuCell, sheetCount}
 use Rattle.page_form.specs.Form.{titleWidth, titleByte, unitOf, rowCount, sectionAt, sectionOf, cellIn, rowOf, columnOf}
 use Rattle.page_stars.specs.Stars.{starred}
-use Rattle.page_fields.specs.Fields.{fieldWidth, lastPlace, space, pick, heading, fieldText, columnField, shown}
+use Rattle.page_fields.specs.Fields.{fieldWidth, lastPlace, space, pick, heading, noSheet, fieldText, columnField, shown}
 
 abbrev pub lineFeed : ℕ
 lineFeed = 10
@@ -72,18 +72,23 @@ sheetText cells = table (sheetByte cells) sheetBytes
 abbrev pub shownCell : List ℕ → ℕ → ℕ → ℕ
 shownCell cells cell p = shown (unitOf (rowOf cell)) (getD cells cell 0) p
 
+-- of the sheet before, which has no cells where there was none
+abbrev pub heldCell : List ℕ → ℕ → ℕ → ℕ
+heldCell before cell p = cond (leb (length before) cell) (fieldText noSheet p) (shownCell before cell p)
+
 -- a cell's title, whose it is, what it held and what it holds
 unfoldable pub changeField : List ℕ → List ℕ → ℕ → ℕ → ℕ → ℕ
 changeField before after cell field p =
     cond (eqb field 0) (fieldText (columnField (sectionOf cell .columns) (columnOf cell)) p)
-    (cond (eqb field 1) (shownCell before cell p) (cond (eqb field 2) (shownCell after cell p) space))
+    (cond (eqb field 1) (heldCell before cell p) (cond (eqb field 2) (shownCell after cell p) space))
 
 unfoldable pub changeByte : List ℕ → List ℕ → ℕ → ℕ → ℕ
 changeByte before after cell i = inRow (rowOf cell) i (changeField before after cell (fieldAt i) (placeAt i))
 
--- the ICU and the letter are listed also where they stay
+-- the ICU and the letter are listed also where they stay; every cell, where there was no sheet before
 abbrev pub isListed : List ℕ → List ℕ → ℕ → Bool
-isListed before after cell = not (eqb (getD before cell 0) (getD after cell 0)) || leb icuCell cell
+isListed before after cell =
+    leb (length before) cell || (not (eqb (getD before cell 0) (getD after cell 0)) || leb icuCell cell)
 
 unfoldable pub changeHead : List ℕ
 changeHead = ascii "no changed cell              book :      where     before      after           \n"

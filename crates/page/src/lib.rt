@@ -6,7 +6,7 @@ ghost use Rattle.lists.specs.Lists.{table, over};
 ghost use Rattle.page_form.specs.Form.{rowCount};
 ghost use Rattle.page_fields.specs.Fields.{fieldWidth};
 ghost use Rattle.page.specs.Worksheet.{starOver, starredAt, fieldByte, rowWidth, inRow, rowByte, sheetBytes, sheetText};
-ghost use Rattle.page.specs.Worksheet.{shownCell, changeField, changeByte, isListed, changeText};
+ghost use Rattle.page.specs.Worksheet.{shownCell, heldCell, changeField, changeByte, isListed, changeText};
 use page_stars::value_of;
 
 // A row is a title, a field for each approach and a line feed.
@@ -124,6 +124,17 @@ fn shown_cell(cells: &[u32], cell: usize, p: usize) -> u8
     )
 }
 
+// Of the sheet before, which has no cells where there was none.
+fn held_cell(before: &[u32], cell: usize, p: usize) -> u8
+    requires { ⌜ p < fieldWidth ⌝ }
+    ensures { λ r. ⌜ r ≡ heldCell (now (before .entry)) cell p ⌝ }
+{
+    if before.len() <= cell {
+        return page_fields::field_text(page_fields::NO_SHEET, p);
+    }
+    shown_cell(before, cell, p)
+}
+
 // Whose the cell is, what it held and what it holds.
 fn change_field(before: &[u32], after: &[u32], cell: usize, field: usize, p: usize) -> u8
     requires { ⌜ p < fieldWidth ⌝ }
@@ -137,7 +148,7 @@ fn change_field(before: &[u32], after: &[u32], cell: usize, field: usize, p: usi
             ),
             p,
         ),
-        1 => shown_cell(before, cell, p),
+        1 => held_cell(before, cell, p),
         2 => shown_cell(after, cell, p),
         _ => b' ',
     }
@@ -152,10 +163,13 @@ fn change_byte(before: &[u32], after: &[u32], cell: usize, i: usize) -> u8
     in_row(page_form::row_of(cell), i, field)
 }
 
-// The ICU and the letter are listed also where they stay.
+// The ICU and the letter are listed also where they stay; every cell, where there was no sheet before.
 fn is_listed(before: &[u32], after: &[u32], cell: usize) -> bool
     ensures { λ r. ⌜ r ≡ isListed (now (before .entry)) (now (after .entry)) cell ⌝ }
 {
+    if before.len() <= cell {
+        return true;
+    }
     value_of(before, cell) != value_of(after, cell) || layout::ICU_CELL <= cell
 }
 

@@ -65,7 +65,7 @@ decimalsOf unit = cond (eqb unit seconds) 3 (cond (eqb unit factor) 4 (cond (eqb
 
 -- texts --------------------------------------------------------------------------------------------------------------
 
--- "NA for BLANK"; then the picks, the approaches, the pairs, and nothing
+-- "NA for BLANK"; then the picks, the approaches, the pairs, what stands for a cell where there is no sheet, and nothing
 unfoldable pub fields : List ℕ
 fields =
     joined (
@@ -79,6 +79,7 @@ fields =
     "         SB" ∷
     "      EB-WB" ∷
     "      NB-SB" ∷
+    "       none" ∷
     "           " ∷
     [])
 
@@ -95,8 +96,11 @@ approachNames = pickNames + pickNo
 abbrev pub pairNames : ℕ
 pairNames = approachNames + approachCount
 
+abbrev pub noSheet : ℕ
+noSheet = pairNames + pairCount
+
 abbrev pub noName : ℕ
-noName = pairNames + pairCount
+noName = noSheet + 1
 
 -- place p of one of them
 abbrev pub fieldText : ℕ → ℕ → ℕ

@@ -19,7 +19,9 @@ const APPROACH_NAMES: usize = PICK_NAMES + layout::PICK;
 
 const PAIR_NAMES: usize = APPROACH_NAMES + layout::APPROACHES;
 
-const NO_NAME: usize = PAIR_NAMES + layout::PAIRS;
+pub const NO_SHEET: usize = PAIR_NAMES + layout::PAIRS;
+
+const NO_NAME: usize = NO_SHEET + 1;
 
 const FIELDS: [u8; FIELD_WIDTH * (NO_NAME + 1)] = *b"\x20        NA\
     \x20 protected\
@@ -31,6 +33,7 @@ const FIELDS: [u8; FIELD_WIDTH * (NO_NAME + 1)] = *b"\x20        NA\
     \x20        SB\
     \x20     EB-WB\
     \x20     NB-SB\
+    \x20      none\
     \x20          ";
 
 // A to H.

@@ -1,64 +1,108 @@
--- Laws of each way that a change, and a run, can go.
-use Prim.Native.Nat.{ℕ, _+_, _≤_}
+-- Laws of the arguments' number, of a site that is sought, and of each way that a run can go.
+use Prim.Native.Nat.{ℕ, _≤_}
 use mathlib.Core.Path.{_≡_, refl}
-use mathlib.Core.Bool.{Bool, true, false}
-use mathlib.Core.List.{List}
-use lib.ListN.{length, take, length-append, length-take}
-use lib.Dec.{eqb, leb}
+use mathlib.Core.Bool.{Bool, true, false, cond, _&&_}
+use mathlib.Core.List.{List, []}
+use lib.Dec.{leb, ltb}
+use borrow.Author.Tests.{leb-true}
 use native.Mathlib.Omega.{arith}
-use Rattle.answers.specs.declared.Refusal.{Refusal}
+use Rattle.answers.specs.Answers.{left-by}
 use Rattle.answers.specs.declared.Answer.{Answer}
 use Rattle.answers.specs.declared.Answer.the-variants.{Accepted, Refused as No}
-use Rattle.study.specs.Study.{judgement, sitesOf, siteAnswer}
-use Rattle.text.specs.Text.{ascii}
-use Rattle.text_refusals.specs.Refusals.{refusalText}
+use Rattle.lists.proofs.Tests.{both-true}
+use Rattle.procedure.specs.Sheet.{sheet}
+use Rattle.page.specs.Worksheet.{changeText}
+use Rattle.study.specs.Study.{judgement, sitesOf, siteAnswer, siteEntries}
+use Rattle.study_changed.specs.Changed.{withEntries}
+use Rattle.text.specs.Text.{Placed}
+use Rattle.text.proofs.Laws.{placed-nothing}
 use Rattle.program_words.specs.Words.{wordAt}
 use Rattle.program_outcome.specs.declared.Call.{Call}
-use Rattle.program_outcome.specs.declared.Remark.the-variants.{NoEntry as NoEntryThere}
-use Rattle.program_outcome.specs.Outcome.{saying, wordMost, opening, named, remarkText, remarked, withFile}
-use Rattle.program_site.specs.Site.{siteNamed, soughtBy, sought}
+use Rattle.program_outcome.specs.declared.Lengths.{Lengths}
+use Rattle.program_outcome.specs.Outcome.{Outcome, saying, withFile, Left}
+use Rattle.program_outcome.specs.Working.{onlySaid}
+use Rattle.program_site.specs.Site.{siteNamed, soughtBy, sought, soughtText, withSite}
+use Rattle.program_site.specs.declared.Sought.{Sought}
 use Rattle.program_site.specs.declared.Sought.the-variants.{Site, Missing, Bad}
-use Rattle.program_amend.specs.declared.Change.{Change}
-use Rattle.program_amend.specs.Run.{changeAnswer, changeBy, changeOf, changeAt, withAsked, askedIn, amendUse, amendTakes, amendRun}
+use Rattle.program_site.proofs.Laws.{isThere, left-unsought}
+use Rattle.program_changes.specs.declared.Done.{Done}
+use Rattle.program_changes.specs.Changes.{mostChanges, changedBy}
+use Rattle.program_changes.specs.Working.{Came}
+use Rattle.program_amend.specs.Run.{changesIn, leftOver, isKept, amendTakes, amendUse, sheetBefore}
+use Rattle.program_amend.specs.Run.{changesGive, amendSite, amendFile, amendWork}
+
+-- no more changes are taken than there is room for
+pub few-changes : (count : ℕ) → amendTakes count ≡ true → changesIn count ≤ mostChanges
+few-changes count right =
+    let some = both-true (ltb 0 (changesIn count)) _ right in
+    leb-true _ _ (both-true (leb (changesIn count) mostChanges) (leb (leftOver count) 1) (some .1) .0)
+
+-- what is left by one answer twice
+pub left-twice : {A : Type 0} (a : Answer) (new old other : A) → left-by a (left-by a new old) other ≡ left-by a new other
+left-twice Accepted new old other = refl
+left-twice (No why place) new old other = refl
 
 -- a site that is found is there
 pub site-there : (file word : List ℕ) {site : ℕ} → sought file word ≡ Site site → siteAnswer file site ≡ Accepted
 unfolding sought
-site-there file word {site} e = by (judgement file) refl (leb (sitesOf file) (siteNamed word)) refl e
+site-there file word {site} found = by (judgement file) refl (leb (sitesOf file) (siteNamed word)) refl found
   where
-    by : (a : Answer) → judgement file ≡ a → (lacks : Bool) → leb (sitesOf file) (siteNamed word) ≡ lacks
-        → soughtBy a lacks (siteNamed word) ≡ Site site
+    clash : {sites : ℕ} → Missing sites ≡ Site site → siteAnswer file site ≡ Accepted
+    clash gone = absurd (let z : _≡_ {A = ℕ} 0 1 = cc in omega arith)
+
+    here : leb (sitesOf file) (siteNamed word) ≡ false → judgement file ≡ Accepted → Site (siteNamed word) ≡ Site site
         → siteAnswer file site ≡ Accepted
-    by Accepted good true lacks is = absurd (let z : _≡_ {A = ℕ} 0 1 = cc in omega arith)
-    by Accepted good false lacks is =
+    here lacks good is =
         let same : siteNamed word ≡ site = cc in
         rw (good, ← same, lacks)
-    by (No why place) bad true lacks is = absurd (let z : _≡_ {A = ℕ} 0 1 = cc in omega arith)
-    by (No why place) bad false lacks is = absurd (let z : _≡_ {A = ℕ} 0 1 = cc in omega arith)
 
--- a change that is refused, and one that is not
-module _ (file e : List ℕ) (c : Change) where
-  pub change-refused : {why : Refusal} {place : ℕ} → changeAnswer e (c .entry) (c .value) ≡ No why place → changeOf file e c ≡ saying (refusalText why place)
-  unfolding changeOf
-  change-refused bad = rw bad
+    by : (a : Answer) → judgement file ≡ a → (lacks : Bool) → leb (sitesOf file) (siteNamed word) ≡ lacks
+        → soughtBy a (sitesOf file) (siteNamed word) ≡ Site site
+        → siteAnswer file site ≡ Accepted
+    by Accepted good true lacks is = clash (rw lacks at is)
+    by Accepted good false lacks is = here lacks good (rw lacks at is)
+    by (No why place) bad lacks so is = absurd (let z : _≡_ {A = ℕ} 0 1 = cc in omega arith)
 
-  pub change-made : changeAnswer e (c .entry) (c .value) ≡ Accepted → changeOf file e c ≡ changeBy Accepted file e c
-  unfolding changeOf
-  change-made good = rw good
+-- where there is no such site, that is said, and nothing is printed or written
+pub left-nowhere : (this : Sought) (name word : List ℕ) (run : ℕ → Outcome) {printed written said said′ : List ℕ} {n : ℕ}
+    → isThere this ≡ false
+    → Placed said 0 (soughtText this name word) said′ n
+    → Left (withSite this name word run) printed said printed said′ (onlySaid n)
+    × Placed written 0 (withSite this name word run .writes) written 0
+left-nowhere (Site site) name word run gone p = absurd (let y : _≡_ {A = ℕ} 0 1 = cc in omega arith)
+left-nowhere (Missing sites) name word run {written = written} gone p =
+    (left-unsought (Missing sites) name word run gone p, placed-nothing written 0)
+left-nowhere (Bad why place) name word run {written = written} gone p =
+    (left-unsought (Bad why place) name word run gone p, placed-nothing written 0)
 
--- what is said of an unknown name leaves room for how the program is called
-pub no-entry-fits : (kind : List ℕ) → length (remarked kind NoEntryThere) ≤ wordMost + 64
-unfolding named opening remarkText ascii
-no-entry-fits kind = rw (length-append, length-append, length-take) (omega arith)
+-- and where there is, what the changes came to is given
+pub left-given : (count : ℕ) (words file : List ℕ) {site : ℕ} {printed written said entries printed′ written′ said′ : List ℕ}
+    {done : Done} {lengths : Lengths} → sought file (wordAt words 1) ≡ Site site
+    → Came (changedBy words (changesIn count) (siteEntries file site)) said entries said′ done
+    → Placed printed 0 (cond (done .made) (changeText (sheetBefore (siteEntries file site)) (sheet entries)) []) printed′ (lengths .prints)
+    → Placed written 0 (cond (done .made && isKept count) (withEntries file site entries) []) written′ (lengths .writes)
+    → lengths .says ≡ done .says
+    → Left (amendFile count words file) printed said printed′ said′ lengths
+    × Placed written 0 (amendFile count words file .writes) written′ (lengths .writes)
+unfolding amendFile amendSite changesGive
+left-given count words file found came prints writes says =
+    let written = rw (came .made, came .entries) at writes in
+    rw found (
+      record {
+        prints = rw (came .made, came .entries) at prints;
+        writes = omega (arith, written .next);
+        says = rw says (came .says);
+      },
+      written,
+    )
 
+-- each way that a run can go
 module _ (call : Call) (words area : List ℕ) where
-  pub run-use : amendTakes (call .arguments) ≡ false → amendRun call words area ≡ saying amendUse
-  unfolding amendRun
-  run-use wrong = rw wrong
+  pub work-use : amendTakes (call .arguments) ≡ false → amendWork call words area ≡ saying amendUse
+  unfolding amendWork
+  work-use wrong = rw wrong
 
-  pub run-asked : amendTakes (call .arguments) ≡ true
-      → amendRun call words area
-      ≡ withAsked (askedIn words) (wordAt words 3) (wordAt words 4)
-      (λ i value. withFile (call .input) (wordAt words 0) area (changeAt (eqb (call .arguments) 7) i value (wordAt words 1)))
-  unfolding amendRun
-  run-asked right = rw right
+  pub work-file : amendTakes (call .arguments) ≡ true
+      → amendWork call words area ≡ withFile (call .input) (wordAt words 0) area (amendFile (call .arguments) words)
+  unfolding amendWork
+  work-file right = rw right

@@ -1,102 +1,90 @@
--- What `icuamend` gives: what a change of one entry changes on a site's sheet, and the changed study; or what is said.
-use Prim.Native.Nat.{ℕ}
-use mathlib.Core.Bool.{Bool, cond}
+-- What `icuamend` gives: what changes of entries change on a site's sheet, and the changed study; or what is said.
+use Prim.Native.Nat.{ℕ, _+_, _-_, _/_, _%_}
+use mathlib.Core.Bool.{Bool, cond, _&&_}
 use mathlib.Core.List.{List, [], _++_}
-use lib.ListN.{take}
-use lib.Dec.{eqb}
-use Rattle.answers.specs.Answers.{_then_}
-use Rattle.answers.specs.declared.Answer.{Answer}
-use Rattle.answers.specs.declared.Answer.the-variants.{Accepted, Refused as No}
-use Rattle.layout.specs.Entries.{entryCount}
+use lib.Dec.{eqb, leb, ltb}
+use Rattle.answers.specs.Answers.{left-by}
 use Rattle.entries.specs.Judging.{judged}
 use Rattle.procedure.specs.Sheet.{sheet}
-use Rattle.amend_sets.specs.Amend.{amendAnswer, amended}
 use Rattle.page.specs.Worksheet.{changeText}
 use Rattle.study.specs.Study.{siteEntries}
 use Rattle.study_changed.specs.Changed.{withEntries}
 use Rattle.text.specs.Text.{ascii}
-use Rattle.text_names.specs.Names.{entryNamed}
-use Rattle.kinds.specs.Kinds.{kindAt}
-use Rattle.text_values.specs.declared.Value.{Value}
-use Rattle.text_values.specs.declared.Value.the-variants.{Is, Not}
-use Rattle.text_values.specs.Values.{valueOf}
-use Rattle.text_troubles.specs.Troubles.{troubleText}
-use Rattle.text_refusals.specs.Refusals.{refusalText}
 use Rattle.program_words.specs.Words.{wordAt}
+use Rattle.program_wish.specs.Wish.{wishOf, versionText}
+use Rattle.program_wish.specs.declared.Wish.{Wish}
+use Rattle.program_wish.specs.declared.Wish.the-variants.{Help, Version, Work}
 use Rattle.program_outcome.specs.declared.Call.{Call}
-use Rattle.program_outcome.specs.declared.Remark.the-variants.{NoEntry as NoEntryThere}
-use Rattle.program_outcome.specs.Outcome.{Outcome, isEither, saying, named, remarked, withFile}
+use Rattle.program_outcome.specs.Outcome.{Outcome, printing, saying, withFile}
 use Rattle.program_site.specs.Site.{sought, withSite}
-use Rattle.program_amend.specs.declared.Change.{Change}
-use Rattle.program_amend.specs.declared.Asked.{Asked}
-use Rattle.program_amend.specs.declared.Asked.the-variants.{Entry, NoEntry, NotValue}
+use Rattle.program_changes.specs.Changes.{mostChanges, changesFrom, changeWords, Changes, changedBy}
 
--- an entry and what a word is as its value
-abbrev pub askedBy : ℕ → Value → Asked
-askedBy i (Is number) = Entry i number
-askedBy i (Not why) = NotValue why
+-- the arguments --------------------------------------------------------------------------------------------------------
 
--- the entry that two words name, and the value that a third spells
-unfoldable pub asked : List ℕ → List ℕ → List ℕ → Asked
-asked title kind value =
-    cond (eqb (entryNamed title kind) entryCount) NoEntry
-    (askedBy (entryNamed title kind) (valueOf (kindAt (entryNamed title kind)) value))
+-- those past a site: the program's own name is among them
+abbrev pub pastSite : ℕ → ℕ
+pastSite count = count - (changesFrom + 1)
 
--- the answer to changing entry i of the sheet that is filled from entries, and that sheet afterwards
-abbrev pub changeAnswer : List ℕ → ℕ → ℕ → Answer
-changeAnswer e i value = judged e then amendAnswer (sheet e) i value
+-- three for each change; one more names the file to write
+abbrev pub changesIn : ℕ → ℕ
+changesIn count = pastSite count / changeWords
 
-abbrev pub changedSheet : List ℕ → ℕ → ℕ → List ℕ
-changedSheet e i value = amended (sheet e) i value
+abbrev pub leftOver : ℕ → ℕ
+leftOver count = pastSite count % changeWords
 
--- accepted, what changes is printed, and the study, in which the site has the changed sheet's entries, is written if it is to be kept
-abbrev pub changeBy : Answer → List ℕ → List ℕ → Change → Outcome
-changeBy Accepted file e c =
-    record {
-      prints = changeText (sheet e) (changedSheet e (c .entry) (c .value));
-      writes = cond (c .kept) (withEntries file (c .site) (take entryCount (changedSheet e (c .entry) (c .value)))) [];
-      says = [];
-    }
-changeBy (No why place) file e c = saying (refusalText why place)
+abbrev pub isKept : ℕ → Bool
+isKept count = eqb (leftOver count) 1
 
-unfoldable pub changeOf : List ℕ → List ℕ → Change → Outcome
-changeOf file e c = changeBy (changeAnswer e (c .entry) (c .value)) file e c
+abbrev pub amendTakes : ℕ → Bool
+amendTakes count = ltb 0 (changesIn count) && (leb (changesIn count) mostChanges && leb (leftOver count) 1)
 
--- of the site that a word names
-unfoldable pub changeAt : Bool → ℕ → ℕ → List ℕ → List ℕ → Outcome
-changeAt kept i value word file =
-    withSite (sought file word) word
-    (λ site. changeOf file (siteEntries file site) (record { site = site; entry = i; value = value; kept = kept }))
+-- the last word's place
+abbrev pub newPlace : ℕ → ℕ
+newPlace count = count - 2
 
 unfoldable pub amendUse : List ℕ
 amendUse =
-    ascii "usage: icuamend STUDY SITE NAME ENTRY VALUE [NEW]\n"
+    ascii "usage: icuamend STUDY SITE NAME ENTRY VALUE [NAME ENTRY VALUE ..] [NEW]\n"
     ++ ascii "  prints what changes on the sheet of a site, from 1, as in: icuamend STUDY 1 EBT volume 450\n"
     ++ ascii "  NAME: EBL EBT EBR .. SBR with lanes volume ideal-flow lost-time minimum-green,\n"
     ++ ascii "        EB WB NB SB with shared-lane pedestrians push-button pedestrian-time free-right,\n"
-    ++ ascii "        junction with cycle\n  NEW: the file that the changed study is written to\n"
+    ++ ascii "        junction with cycle; at most 20 changes, one after the other\n"
+    ++ ascii "  NEW: the file that the changed study is written to\n"
 
--- of an entry that has no such name
-unfoldable pub noEntryText : List ℕ → List ℕ
-noEntryText kind = remarked kind NoEntryThere ++ amendUse
+-- the changes ----------------------------------------------------------------------------------------------------------
 
--- what is done with the entry and the value that are asked for
-abbrev pub withAsked : Asked → List ℕ → List ℕ → (ℕ → ℕ → Outcome) → Outcome
-withAsked (Entry i value) kind word run = run i value
-withAsked NoEntry kind word run = saying (noEntryText kind)
-withAsked (NotValue why) kind word run = saying (named word (troubleText why word))
+-- the sheet before the changes: no cells, where the entries are refused
+abbrev pub sheetBefore : List ℕ → List ℕ
+sheetBefore e = left-by (judged e) (sheet e) []
 
--- the number of arguments, the program's name among them: without a file to write, and with one
-abbrev pub amendTakes : ℕ → Bool
-amendTakes count = isEither count 6 7
+-- where a change was made: all that changes is printed, and the study, in which the site has the changed entries, is written if it
+-- is to be kept
+unfoldable pub changesGive : List ℕ → ℕ → Bool → List ℕ → Changes → Outcome
+changesGive file site kept e so =
+    record {
+      prints = cond (so .made) (changeText (sheetBefore e) (sheet (so .entries))) [];
+      writes = cond (so .made && kept) (withEntries file site (so .entries)) [];
+      says = so .says;
+    }
 
--- the words: a study, a site, a title, a kind, a value; the name of the file to write, if any
-abbrev pub askedIn : List ℕ → Asked
-askedIn words = asked (wordAt words 2) (wordAt words 3) (wordAt words 4)
+-- of a site that the file has
+unfoldable pub amendSite : ℕ → List ℕ → List ℕ → ℕ → Outcome
+amendSite count words file site =
+    changesGive file site (isKept count) (siteEntries file site) (changedBy words (changesIn count) (siteEntries file site))
+
+-- the words: a study, a site, the changes; the name of the file to write, if any
+unfoldable pub amendFile : ℕ → List ℕ → List ℕ → Outcome
+amendFile count words file = withSite (sought file (wordAt words 1)) (wordAt words 0) (wordAt words 1) (amendSite count words file)
+
+unfoldable pub amendWork : Call → List ℕ → List ℕ → Outcome
+amendWork call words area =
+    cond (amendTakes (call .arguments)) (withFile (call .input) (wordAt words 0) area (amendFile (call .arguments) words)) (saying amendUse)
+
+-- how it is called, or its version, where that is asked for
+abbrev pub asWished : Wish → Outcome → Outcome
+asWished Help work = printing amendUse
+asWished Version work = printing versionText
+asWished Work work = work
 
 unfoldable pub amendRun : Call → List ℕ → List ℕ → Outcome
-amendRun call words area =
-    cond (amendTakes (call .arguments))
-    (withAsked (askedIn words) (wordAt words 3) (wordAt words 4)
-    (λ i value. withFile (call .input) (wordAt words 0) area (changeAt (eqb (call .arguments) 7) i value (wordAt words 1))))
-    (saying amendUse)
+amendRun call words area = asWished (wishOf (call .arguments) (wordAt words 0)) (amendWork call words area)

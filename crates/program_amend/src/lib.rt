@@ -1,251 +1,311 @@
 // What `icuamend` prints, writes and says: one call, between reading and writing.
 ghost use mathlib.Core.Path.{_≡_};
-ghost use mathlib.Core.Bool.{cond};
-ghost use mathlib.Core.List.{[], _++_};
+ghost use mathlib.Core.Bool.{true, cond, _&&_};
+ghost use mathlib.Core.List.{[]};
 ghost use Prim.Native.Nat.{_+_, _≤_};
 ghost use lib.ListN.{length, take};
 ghost use Rattle.answers.specs.Answers.{left-by};
 ghost use Rattle.answers.specs.declared.Answer.the-variants.{Accepted};
-ghost use Rattle.layout.specs.Entries.{entryCount};
 ghost use Rattle.entries.specs.Judging.{judged};
 ghost use Rattle.procedure.specs.Sheet.{sheet};
 ghost use Rattle.page.specs.Worksheet.{changeText};
 ghost use Rattle.study.specs.Study.{siteAnswer};
 ghost use Rattle.study_changed.specs.Changed.{withEntries};
 ghost use Rattle.text.specs.Text.{Placed};
-ghost use Rattle.program_outcome.specs.Outcome.{Left};
-ghost use Rattle.program_amend.specs.Run.{asked, askedIn, changeAnswer, changedSheet, changeOf, changeAt};
-ghost use Rattle.program_amend.specs.Run.{amendUse, noEntryText, amendTakes, amendRun};
-ghost use Rattle.program_amend.specs.Working.{useMost};
+ghost use Rattle.program_outcome.specs.declared.Remark.the-variants.{Unread as NotRead};
+ghost use Rattle.program_outcome.specs.Outcome.{remarked, Left};
+ghost use Rattle.program_site.specs.Site.{soughtText};
+ghost use Rattle.program_amend.specs.Run.{pastSite, changesIn, isKept, amendTakes, newPlace, amendUse, sheetBefore};
+ghost use Rattle.program_amend.specs.Run.{amendFile, amendWork, amendRun};
+ghost use Rattle.program_amend.specs.Working.{useMost, onlyPrinted};
 use answers::Answer;
-use kinds::Kind;
 use layout::CELLS;
 use layout::ENTRIES;
+use program_changes::CHANGE_WORDS;
+use program_changes::CHANGES_FROM;
+use program_changes::MOST_CHANGES;
 use program_outcome::AREA_BYTES;
 use program_outcome::Call;
 use program_outcome::Input;
 use program_outcome::Lengths;
 use program_outcome::Remark;
-use program_outcome::SAID_BYTES;
 use program_site::Sought;
-use text_values::Trouble;
-use text_values::Value;
+use program_wish::Wish;
 
-// Room for what is printed and for what is written.
+// Room for what is printed, for what is written and for what is said.
 pub const PRINTED_BYTES: usize = page::CHANGE_BYTES;
 
 pub const WRITTEN_BYTES: usize = study::MOST_BYTES;
 
-// The number of arguments, without a file to write, and with one.
-const TO_PRINT: usize = 6;
+pub const SAID_BYTES: usize = program_changes::SAID_BYTES;
 
-const TO_WRITE: usize = 7;
+// The most words: a study and a site, the changes, and the file to write.
+pub const MOST_WORDS: usize = CHANGES_FROM + CHANGE_WORDS * MOST_CHANGES + 1;
 
-// The arguments, among the words.
+// The first arguments, among the words.
 const NAME: usize = 0;
 
 const SITE: usize = 1;
 
-const TITLE: usize = 2;
-
-const KIND: usize = 3;
-
-const VALUE: usize = 4;
-
-pub const NEW: usize = 5;
-
-// What is asked for: an entry and its new value, if the words name them.
-pub enum Asked {
-    Entry(u32, u32),
-    NoEntry,
-    NotValue(Trouble),
-}
-
-// What is changed: a site, one of its entries, and the entry's new value; and whether the changed study is to be written.
-pub struct Change {
+// What changes came to: the site, whether the study is to be kept, whether a change was made, and how many bytes are said.
+pub struct Given {
     pub site: u32,
-    pub entry: u32,
-    pub value: u32,
     pub kept: bool,
+    pub made: bool,
+    pub says: usize,
 }
 
-fn ask(title: &[u8], kind: &[u8], value: &[u8]) -> Asked
-    ensures { λ r. ⌜ r ≡ asked (now (title .entry)) (now (kind .entry)) (now (value .entry)) ⌝ }
+// How many arguments stand past the site.
+fn past_site(count: usize) -> usize
+    ensures { λ r. ⌜ r ≡ pastSite count ⌝ }
 {
-    let entry = text_names::entry_named(title, kind);
-    if entry == text_names::ENTRIES {
-        return Asked::NoEntry;
+    if count <= CHANGES_FROM {
+        return 0;
     }
-    let word = text_values::value_of(Kind::at(entry as usize), value);
-    match word {
-        Value::Is(number) => Asked::Entry(entry, number),
-        Value::Not(why) => Asked::NotValue(why),
-    }
+    count - (CHANGES_FROM + 1)
 }
 
-// Fills a sheet, and amends it beside: the answer is the fill's refusal, or the amendment's.
-fn amend_cells(
-    entries: &[u32; ENTRIES],
-    entry: u32,
-    value: u32,
-    before: &mut [u32; CELLS],
-    after: &mut [u32; CELLS],
-) -> Answer
-    ensures { λ r. ⌜ r ≡ changeAnswer (now (entries .entry)) entry value ⌝ }
-    ensures { λ r. ⌜ now (before .exit) ≡ left-by (judged (now (entries .entry))) (sheet (now (entries .entry))) (now (before .entry)) ⌝ }
-    ensures { λ r. ⌜ now (after .exit)
-        ≡ left-by (judged (now (entries .entry))) (changedSheet (now (entries .entry)) entry value) (now (after .entry)) ⌝ }
+// How many changes so many arguments ask for.
+fn changes_in(count: usize) -> usize
+    ensures { λ r. ⌜ r ≡ changesIn count ⌝ }
 {
-    let filled = sheet::fill(entries, before);
-    let Answer::Accepted = filled else {
-        return filled;
-    };
-    *after = *before;
-    amend::amend(after, entry, value)
+    past_site(count) / CHANGE_WORDS
 }
 
-fn print_changes(
-    before: &[u32; CELLS],
-    after: &[u32; CELLS],
-    printed: &mut [u8; PRINTED_BYTES],
-) -> usize
-    ensures { λ r. ⌜ Placed (now (printed .entry)) 0 (changeText (now (before .entry)) (now (after .entry))) (now (printed .exit)) r ⌝ }
+// Whether the last of them names the file to write.
+fn is_kept(count: usize) -> bool
+    ensures { λ r. ⌜ r ≡ isKept count ⌝ }
 {
-    page::changes(before, after, printed)
-}
-
-// Makes the study in which a site has the entries of a sheet.
-fn put_site(file: &[u8], site: u32, cells: &[u32], written: &mut [u8; WRITTEN_BYTES]) -> usize
-    requires { ⌜ (siteAnswer (now file) site ≡ Accepted) × (entryCount ≤ length (now cells)) ⌝ }
-    ensures { λ r. ⌜ Placed (now (written .entry)) 0 (withEntries (now (file .entry)) site (take entryCount (now (cells .entry)))) (now (written .exit)) r ⌝ }
-{
-    study_changed::put(file, site, &cells[..ENTRIES], written)
-}
-
-// Makes it, if it is to be written.
-fn write_site(
-    file: &[u8],
-    change: Change,
-    cells: &[u32; CELLS],
-    written: &mut [u8; WRITTEN_BYTES],
-) -> usize
-    requires { ⌜ siteAnswer (now file) (change .site) ≡ Accepted ⌝ }
-    ensures { λ r. ⌜ Placed (now (written .entry)) 0
-        (cond (change .kept) (withEntries (now (file .entry)) (change .site) (take entryCount (now (cells .entry)))) [])
-        (now (written .exit)) r ⌝ }
-{
-    if change.kept {
-        return put_site(file, change.site, cells, written);
-    }
-    0
-}
-
-// Changes an entry of a site that the file has.
-fn change_site(
-    file: &[u8],
-    entries: &[u32; ENTRIES],
-    change: Change,
-    printed: &mut [u8; PRINTED_BYTES],
-    written: &mut [u8; WRITTEN_BYTES],
-    said: &mut [u8; SAID_BYTES],
-) -> Lengths
-    requires { ⌜ siteAnswer (now file) (change .site) ≡ Accepted ⌝ }
-    ensures { λ r. ⌜ Left (changeOf (now (file .entry)) (now (entries .entry)) change)
-        (now (printed .entry)) (now (said .entry)) (now (printed .exit)) (now (said .exit)) r ⌝ }
-    ensures { λ r. ⌜ Placed (now (written .entry)) 0 (changeOf (now (file .entry)) (now (entries .entry)) change .writes) (now (written .exit)) (r .writes) ⌝ }
-{
-    let mut before = [0u32; CELLS];
-    let mut after = [0u32; CELLS];
-    let answer = amend_cells(entries, change.entry, change.value, &mut before, &mut after);
-    if let Answer::Refused(why, place) = answer {
-        return program_outcome::only_said(program_refusals::say_answer(
-            Answer::Refused(why, place),
-            said,
-        ));
-    }
-    let prints = print_changes(&before, &after, printed);
-    let writes = write_site(file, change, &after, written);
-    Lengths {
-        prints,
-        writes,
-        says: 0,
-    }
-}
-
-// Changes an entry of the site that a word names.
-fn change_at(
-    file: &[u8],
-    word: &[u8],
-    wanted: Change,
-    printed: &mut [u8; PRINTED_BYTES],
-    written: &mut [u8; WRITTEN_BYTES],
-    said: &mut [u8; SAID_BYTES],
-) -> Lengths
-    ensures { λ r. ⌜ Left (changeAt (wanted .kept) (wanted .entry) (wanted .value) (now (word .entry)) (now (file .entry)))
-        (now (printed .entry)) (now (said .entry)) (now (printed .exit)) (now (said .exit)) r ⌝ }
-    ensures { λ r. ⌜ Placed (now (written .entry)) 0
-        (changeAt (wanted .kept) (wanted .entry) (wanted .value) (now (word .entry)) (now (file .entry)) .writes) (now (written .exit)) (r .writes) ⌝ }
-{
-    let mut entries = [0u32; ENTRIES];
-    let sought = program_site::read_site(file, word, &mut entries);
-    match sought {
-        Sought::Site(site) => {
-            let change = Change {
-                site,
-                entry: wanted.entry,
-                value: wanted.value,
-                kept: wanted.kept,
-            };
-            change_site(file, &entries, change, printed, written, said)
-        }
-        Sought::Missing => program_outcome::only_said(program_site::say_site(sought, word, said)),
-        Sought::Bad(_, _) => program_outcome::only_said(program_site::say_site(sought, word, said)),
-    }
-}
-
-fn put_use(out: &mut [u8], at: usize) -> usize
-    requires { ⌜ at + useMost ≤ length (now out) ⌝ }
-    ensures { λ r. ⌜ Placed (now (out .entry)) at amendUse (now (out .exit)) r × (r ≤ at + useMost) ⌝ }
-{
-    text::put_bytes(
-        out,
-        at,
-        b"usage: icuamend STUDY SITE NAME ENTRY VALUE [NEW]\n  \
-        prints what changes on the sheet of a site, from 1, as in: icuamend STUDY 1 EBT volume 450\n  \
-        NAME: EBL EBT EBR .. SBR with lanes volume ideal-flow lost-time minimum-green,\n        \
-        EB WB NB SB with shared-lane pedestrians push-button pedestrian-time free-right,\n        \
-        junction with cycle\n  \
-        NEW: the file that the changed study is written to\n",
-    )
-}
-
-fn say_use(said: &mut [u8; SAID_BYTES]) -> usize
-    ensures { λ r. ⌜ Placed (now (said .entry)) 0 amendUse (now (said .exit)) r ⌝ }
-{
-    put_use(said, 0)
-}
-
-// Says that no entry has that name, and how the program is called.
-fn say_no_entry(kind: &[u8], said: &mut [u8; SAID_BYTES]) -> usize
-    ensures { λ r. ⌜ Placed (now (said .entry)) 0 (noEntryText (now (kind .entry))) (now (said .exit)) r ⌝ }
-{
-    let at = program_outcome::say(kind, Remark::NoEntry, said);
-    put_use(said, at)
-}
-
-fn ask_words(words: &[u8]) -> Asked
-    ensures { λ r. ⌜ r ≡ askedIn (now (words .entry)) ⌝ }
-{
-    let title = program_words::word(words, TITLE);
-    let kind = program_words::word(words, KIND);
-    ask(title, kind, program_words::word(words, VALUE))
+    past_site(count) % CHANGE_WORDS == 1
 }
 
 // Whether so many arguments are right: then the first names a file to be read.
 pub fn takes(count: usize) -> bool
     ensures { λ r. ⌜ r ≡ amendTakes count ⌝ }
 {
-    program_outcome::is_either(count, TO_PRINT, TO_WRITE)
+    let past = past_site(count);
+    let changes = past / CHANGE_WORDS;
+    if changes == 0 {
+        return false;
+    }
+    if MOST_CHANGES < changes {
+        return false;
+    }
+    past % CHANGE_WORDS <= 1
+}
+
+// The place of the last word, which names the file to write.
+pub fn new_place(count: usize) -> usize
+    ensures { λ r. ⌜ r ≡ newPlace count ⌝ }
+{
+    if count < CHANGES_FROM {
+        return 0;
+    }
+    count - CHANGES_FROM
+}
+
+// Lists what changed since a sheet that was filled, or not.
+fn list_since(
+    filled: Answer,
+    before: &[u32],
+    after: &[u32],
+    printed: &mut [u8; PRINTED_BYTES],
+) -> usize
+    ensures { λ r. ⌜ Placed (now (printed .entry)) 0 (changeText (left-by filled (now (before .entry)) []) (now (after .entry))) (now (printed .exit)) r ⌝ }
+{
+    match filled {
+        Answer::Accepted => page::changes(before, after, printed),
+        Answer::Refused(_, _) => page::changes(&before[..0], after, printed),
+    }
+}
+
+fn list_changes(
+    filled: Answer,
+    before: &[u32; CELLS],
+    after: &[u32; CELLS],
+    printed: &mut [u8; PRINTED_BYTES],
+) -> usize
+    ensures { λ r. ⌜ Placed (now (printed .entry)) 0 (changeText (left-by filled (now (before .entry)) []) (now (after .entry))) (now (printed .exit)) r ⌝ }
+{
+    list_since(filled, before, after, printed)
+}
+
+// Prints what acceptable entries change on the sheet of other entries.
+fn print_changes(
+    entries: &[u32; ENTRIES],
+    changed: &[u32; ENTRIES],
+    printed: &mut [u8; PRINTED_BYTES],
+) -> usize
+    requires { ⌜ judged (now changed) ≡ Accepted ⌝ }
+    ensures { λ r. ⌜ Placed (now (printed .entry)) 0 (changeText (sheetBefore (now (entries .entry))) (sheet (now (changed .entry)))) (now (printed .exit)) r ⌝ }
+{
+    let mut before = [0u32; CELLS];
+    let mut after = [0u32; CELLS];
+    let filled = sheet::fill(entries, &mut before);
+    sheet::fill(changed, &mut after);
+    list_changes(filled, &before, &after, printed)
+}
+
+// Makes the study in which a site has these entries, if it is to be kept.
+fn write_site(
+    file: &[u8],
+    site: u32,
+    kept: bool,
+    entries: &[u32; ENTRIES],
+    written: &mut [u8; WRITTEN_BYTES],
+) -> usize
+    requires { ⌜ siteAnswer (now file) site ≡ Accepted ⌝ }
+    ensures { λ r. ⌜ Placed (now (written .entry)) 0 (cond kept (withEntries (now (file .entry)) site (now (entries .entry))) []) (now (written .exit)) r ⌝ }
+{
+    if kept {
+        return study_changed::put(file, site, entries, written);
+    }
+    0
+}
+
+// Gives what changes came to, if one was made.
+fn give(
+    file: &[u8],
+    given: Given,
+    entries: &[u32; ENTRIES],
+    changed: &[u32; ENTRIES],
+    printed: &mut [u8; PRINTED_BYTES],
+    written: &mut [u8; WRITTEN_BYTES],
+) -> Lengths
+    requires { ⌜ (siteAnswer (now file) (given .site) ≡ Accepted) × (given .made ≡ true → judged (now changed) ≡ Accepted) ⌝ }
+    ensures { λ r. ⌜ Placed (now (printed .entry)) 0
+        (cond (given .made) (changeText (sheetBefore (now (entries .entry))) (sheet (now (changed .entry)))) []) (now (printed .exit)) (r .prints) ⌝ }
+    ensures { λ r. ⌜ Placed (now (written .entry)) 0
+        (cond (given .made && given .kept) (withEntries (now (file .entry)) (given .site) (now (changed .entry))) []) (now (written .exit)) (r .writes) ⌝ }
+    ensures { λ r. ⌜ r .says ≡ given .says ⌝ }
+{
+    let says = given.says;
+    if !given.made {
+        return program_outcome::only_said(says);
+    }
+    let prints = print_changes(entries, changed, printed);
+    let writes = write_site(file, given.site, given.kept, changed, written);
+    Lengths {
+        prints,
+        writes,
+        says,
+    }
+}
+
+// Puts a sentence that was made apart.
+fn say_sentence(
+    sentence: &[u8; program_outcome::SAID_BYTES],
+    size: usize,
+    said: &mut [u8; SAID_BYTES],
+) -> usize
+    ensures { λ r. ⌜ Placed (now (said .entry)) 0 (take size (now (sentence .entry))) (now (said .exit)) r ⌝ }
+{
+    text::put_bytes(said, 0, program_outcome::front(sentence, size))
+}
+
+fn say_site(sought: Sought, name: &[u8], word: &[u8], said: &mut [u8; SAID_BYTES]) -> usize
+    ensures { λ r. ⌜ Placed (now (said .entry)) 0 (soughtText sought (now (name .entry)) (now (word .entry))) (now (said .exit)) r ⌝ }
+{
+    let mut sentence = [0u8; program_outcome::SAID_BYTES];
+    let size = program_site::say_site(sought, name, word, &mut sentence);
+    say_sentence(&sentence, size, said)
+}
+
+fn say_unread(name: &[u8], said: &mut [u8; SAID_BYTES]) -> usize
+    ensures { λ r. ⌜ Placed (now (said .entry)) 0 (remarked (now (name .entry)) NotRead) (now (said .exit)) r ⌝ }
+{
+    let mut sentence = [0u8; program_outcome::SAID_BYTES];
+    let size = program_outcome::say(name, Remark::Unread, &mut sentence);
+    say_sentence(&sentence, size, said)
+}
+
+// Changes entries of the site that a word names.
+fn amend_file(
+    file: &[u8],
+    words: &[u8],
+    count: usize,
+    printed: &mut [u8; PRINTED_BYTES],
+    written: &mut [u8; WRITTEN_BYTES],
+    said: &mut [u8; SAID_BYTES],
+) -> Lengths
+    requires { ⌜ amendTakes count ≡ true ⌝ }
+    ensures { λ r. ⌜ Left (amendFile count (now (words .entry)) (now (file .entry)))
+        (now (printed .entry)) (now (said .entry)) (now (printed .exit)) (now (said .exit)) r ⌝ }
+    ensures { λ r. ⌜ Placed (now (written .entry)) 0 (amendFile count (now (words .entry)) (now (file .entry)) .writes) (now (written .exit)) (r .writes) ⌝ }
+{
+    let name = program_words::word(words, NAME);
+    let word = program_words::word(words, SITE);
+    let mut entries = [0u32; ENTRIES];
+    let sought = program_site::read_site(file, word, &mut entries);
+    match sought {
+        Sought::Site(site) => {
+            let mut changed = entries;
+            let done = program_changes::change_all(words, changes_in(count), &mut changed, said);
+            let given = Given {
+                site,
+                kept: is_kept(count),
+                made: done.made,
+                says: done.says,
+            };
+            give(file, given, &entries, &changed, printed, written)
+        }
+        Sought::Missing(_) => program_outcome::only_said(say_site(sought, name, word, said)),
+        Sought::Bad(_, _) => program_outcome::only_said(say_site(sought, name, word, said)),
+    }
+}
+
+// Puts how the program is called to the front.
+fn put_use(out: &mut [u8]) -> usize
+    requires { ⌜ useMost ≤ length (now out) ⌝ }
+    ensures { λ r. ⌜ Placed (now (out .entry)) 0 amendUse (now (out .exit)) r ⌝ }
+{
+    text::put_bytes(
+        out,
+        0,
+        b"usage: icuamend STUDY SITE NAME ENTRY VALUE [NAME ENTRY VALUE ..] [NEW]\n  \
+        prints what changes on the sheet of a site, from 1, as in: icuamend STUDY 1 EBT volume 450\n  \
+        NAME: EBL EBT EBR .. SBR with lanes volume ideal-flow lost-time minimum-green,\n        \
+        EB WB NB SB with shared-lane pedestrians push-button pedestrian-time free-right,\n        \
+        junction with cycle; at most 20 changes, one after the other\n  \
+        NEW: the file that the changed study is written to\n",
+    )
+}
+
+// The lengths where something is printed and nothing else is given.
+fn only_printed(prints: usize) -> Lengths
+    ensures { λ r. ⌜ r ≡ onlyPrinted prints ⌝ }
+{
+    Lengths {
+        prints,
+        writes: 0,
+        says: 0,
+    }
+}
+
+// What is given where neither its use nor its version is asked for.
+fn work(
+    call: Call,
+    words: &[u8],
+    area: &[u8; AREA_BYTES],
+    printed: &mut [u8; PRINTED_BYTES],
+    written: &mut [u8; WRITTEN_BYTES],
+    said: &mut [u8; SAID_BYTES],
+) -> Lengths
+    ensures { λ r. ⌜ Left (amendWork call (now (words .entry)) (now (area .entry)))
+        (now (printed .entry)) (now (said .entry)) (now (printed .exit)) (now (said .exit)) r ⌝ }
+    ensures { λ r. ⌜ Placed (now (written .entry)) 0 (amendWork call (now (words .entry)) (now (area .entry)) .writes) (now (written .exit)) (r .writes) ⌝ }
+{
+    let count = call.arguments;
+    if !takes(count) {
+        return program_outcome::only_said(put_use(said));
+    }
+    let input = call.input;
+    let Input::Read(size) = input else {
+        let name = program_words::word(words, NAME);
+        return program_outcome::only_said(say_unread(name, said));
+    };
+    let file = program_outcome::front(area, size);
+    amend_file(file, words, count, printed, written, said)
 }
 
 // What `icuamend` gives; its study was read into the area.
@@ -261,36 +321,10 @@ pub fn run(
         (now (printed .entry)) (now (said .entry)) (now (printed .exit)) (now (said .exit)) r ⌝ }
     ensures { λ r. ⌜ Placed (now (written .entry)) 0 (amendRun call (now (words .entry)) (now (area .entry)) .writes) (now (written .exit)) (r .writes) ⌝ }
 {
-    let count = call.arguments;
-    if !takes(count) {
-        return program_outcome::only_said(say_use(said));
-    }
-    let asked = ask_words(words);
-    match asked {
-        Asked::NoEntry => program_outcome::only_said(say_no_entry(
-            program_words::word(words, KIND),
-            said,
-        )),
-        Asked::NotValue(why) => {
-            let value = program_words::word(words, VALUE);
-            program_outcome::only_said(program_refusals::say_trouble(value, why, said))
-        }
-        Asked::Entry(entry, value) => {
-            let kept = count == TO_WRITE;
-            let wanted = Change {
-                site: 0,
-                entry,
-                value,
-                kept,
-            };
-            let input = call.input;
-            let Input::Read(size) = input else {
-                let name = program_words::word(words, NAME);
-                return program_outcome::only_said(program_outcome::say(name, Remark::Unread, said));
-            };
-            let file = program_outcome::front(area, size);
-            let site = program_words::word(words, SITE);
-            change_at(file, site, wanted, printed, written, said)
-        }
+    let wish = program_wish::wish_of(call.arguments, program_words::word(words, NAME));
+    match wish {
+        Wish::Help => only_printed(put_use(printed)),
+        Wish::Version => only_printed(program_wish::put_version(printed)),
+        Wish::Work => work(call, words, area, printed, written, said),
     }
 }

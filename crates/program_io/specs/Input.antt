@@ -1,5 +1,6 @@
--- Working definition: how much reading can have come to.
-use Prim.Native.Nat.{ℕ, _≤_}
+-- Working definitions: how much reading can have come to, and how long a name beside another is.
+use Prim.Native.Nat.{ℕ, _+_, _≤_}
+use Rattle.program_outcome.specs.Outcome.{wordMost}
 use Rattle.program_outcome.specs.declared.Input.{Input}
 use Rattle.program_outcome.specs.declared.Input.the-variants.{Read, Failed}
 
@@ -7,3 +8,7 @@ use Rattle.program_outcome.specs.declared.Input.the-variants.{Read, Failed}
 abbrev pub Within : Input → ℕ → Type 0
 Within (Read count) size = count ≤ size
 Within Failed size = Unit {0}
+
+-- an argument, `.part` and a digit
+abbrev pub partMost : ℕ
+partMost = wordMost + 6

@@ -1,17 +1,31 @@
 // Input and output: arguments and files in lent areas, and areas written out. What the system reads or writes, no promise
-// can say; what is read lies within its area.
+// can say; what is read lies within its area. A file is written whole beside its place, and then takes its name.
 ghost use Prim.Native.Nat.{_+_, _≤_, _<_};
 ghost use lib.ListN.{length};
 ghost use Rattle.program_outcome.specs.Outcome.{wordMost};
-ghost use Rattle.program_io.specs.Input.{Within};
+ghost use Rattle.io.specs.Counts.{Counts};
+ghost use Rattle.libc.specs.Io.{Ended};
+ghost use Rattle.program_io.specs.Input.{Within, partMost};
+use libc::PATH_MAX;
 use libc::STDERR_FILENO;
+use libc::STDOUT_FILENO;
+use program_outcome::AREA_BYTES;
 use program_outcome::Input;
 use program_outcome::Remark;
 use program_outcome::SAID_BYTES;
 use program_outcome::WORD_BYTES;
+use program_target::Found;
 
 // The room that an argument takes among the words.
 pub const WORD_ROOM: usize = WORD_BYTES + 1;
+
+// The last byte of a name for the system, which is 0.
+const LAST: usize = PATH_MAX - 1;
+
+// How many names there are for a file beside another, and the bytes of one at most: an argument's, `.part` and a digit.
+const PARTS: u32 = 10;
+
+const PART_BYTES: usize = WORD_BYTES + 6;
 
 // Takes an argument, and ends it by a byte 0; one that is too long is taken as one of no bytes.
 fn take_word(words: &mut [u8], at: usize, argument: usize) -> usize
@@ -80,15 +94,126 @@ pub fn read_named(path: &[u8], area: &mut [u8]) -> Input
     input
 }
 
-// Makes the file, or writes it anew, and answers whether all was written.
-pub fn write_named(path: &[u8], bytes: &[u8]) -> bool {
-    let file = os::open_overwrite(path);
+// A name for the system; no file has one that is longer than what is kept of it.
+fn ended(name: &[u8]) -> [u8; PATH_MAX]
+    ensures { λ r. ⌜ Ended r ⌝ }
+{
+    let mut path = io::buffer();
+    text::put_bytes(&mut path, 0, program_outcome::front(name, LAST));
+    path[LAST] = 0;
+    path
+}
+
+fn is_link(name: &[u8]) -> bool {
+    let path = ended(name);
+    let mut text = io::buffer();
+    libc::readlink(&path, &mut text) >= 0
+}
+
+// Reads a file that was opened at its start; what has no start is no file, and reading it could wait for ever.
+fn find_open(file: i32, area: &mut [u8]) -> Found {
+    if libc::lseek(file, 0, libc::SEEK_CUR) != 0 {
+        return Found::Closed;
+    }
+    let input = read_open(file, area);
+    let Input::Read(size) = input else {
+        return Found::Closed;
+    };
+    Found::Bytes(size)
+}
+
+// What there is where a file is to be written; it stays as it is. It is opened for writing, too, since it may be protected.
+// No file has a name of no bytes.
+fn find(name: &[u8], area: &mut [u8]) -> Found {
+    if name.len() == 0 {
+        return Found::Closed;
+    }
+    if is_link(name) {
+        return Found::Link;
+    }
+    let file = os::open_update(name);
     if file < 0 {
+        if os::errno() == libc::ENOENT {
+            return Found::Absent;
+        }
+        return Found::Closed;
+    }
+    let found = find_open(file, area);
+    libc::close(file);
+    found
+}
+
+// Whether a file may be written there; says why not.
+fn is_free(name: &[u8], whole: bool) -> bool {
+    let mut area = [0u8; AREA_BYTES];
+    let mut said = [0u8; SAID_BYTES];
+    let found = find(name, &mut area);
+    let says = program_target::judge(found, name, &area, whole, &mut said);
+    say(&said, says);
+    says == 0
+}
+
+// The name of a file beside another: that one's, `.part` and a digit.
+fn put_part(name: &[u8], number: u32, path: &mut [u8]) -> usize
+    requires { ⌜ partMost ≤ length (now path) ⌝ }
+    ensures { λ r. ⌜ Counts r (now (path .exit)) ⌝ }
+{
+    let at = text::put_bytes(path, 0, program_outcome::front(name, WORD_BYTES));
+    let past = text::put_bytes(path, at, b".part");
+    text::put_digit(path, past, number % PARTS)
+}
+
+fn make_part(name: &[u8], number: u32) -> i32 {
+    let mut path = [0u8; PART_BYTES];
+    let size = put_part(name, number, &mut path);
+    os::create(&path[..size])
+}
+
+fn remove_part(name: &[u8], number: u32) {
+    let mut path = [0u8; PART_BYTES];
+    let size = put_part(name, number, &mut path);
+    os::unlink(&path[..size]);
+}
+
+// Gives a file beside the name that it is for, in one step of the system; whatever had the name before loses it then.
+fn rename_part(name: &[u8], number: u32) -> bool {
+    let mut path = [0u8; PART_BYTES];
+    let size = put_part(name, number, &mut path);
+    os::rename(&path[..size], name) == 0
+}
+
+// Fills a new file; every step must go well, the last one too.
+fn fill(file: i32, bytes: &[u8]) -> bool {
+    if !io::write_all(file, bytes) {
         return false;
     }
-    let is_written = io::write_all(file, bytes);
-    libc::close(file);
-    is_written
+    libc::fsync(file) == 0
+}
+
+fn fill_and_close(file: i32, bytes: &[u8]) -> bool {
+    let is_filled = fill(file, bytes);
+    if libc::close(file) != 0 {
+        return false;
+    }
+    is_filled
+}
+
+// Writes the bytes to a new file beside, under the first name that is free; its number, or how many there are where it cannot
+// be written whole, and then it is not left there.
+fn write_beside(name: &[u8], bytes: &[u8]) -> u32 {
+    let mut number: u32 = 0;
+    while number < PARTS {
+        let file = make_part(name, number);
+        if file >= 0 {
+            if fill_and_close(file, bytes) {
+                return number;
+            }
+            remove_part(name, number);
+            return PARTS;
+        }
+        number += 1;
+    }
+    PARTS
 }
 
 // Writes the front of an area, and answers whether all was written.
@@ -100,15 +225,48 @@ pub fn say(said: &[u8; SAID_BYTES], size: usize) {
     put_out(STDERR_FILENO, said, size);
 }
 
-// Writes the front of an area to the file of that name, if there is something for it, and says so where it cannot.
-pub fn write_out(name: &[u8], area: &[u8], size: usize) {
-    if size == 0 {
-        return;
-    }
-    if write_named(name, program_outcome::front(area, size)) {
-        return;
-    }
+fn say_of(word: &[u8], remark: Remark) {
     let mut said = [0u8; SAID_BYTES];
-    let says = program_outcome::say(name, Remark::Unwritten, &mut said);
+    let says = program_outcome::say(word, remark, &mut said);
     say(&said, says);
+}
+
+// Prints the front of an area, and answers whether all was printed; says so where it was not.
+pub fn print(program: &[u8], area: &[u8], size: usize) -> bool {
+    if put_out(STDOUT_FILENO, area, size) {
+        return true;
+    }
+    say_of(program, Remark::NoOutput);
+    false
+}
+
+// Puts a file that was written beside in its place, once what there is to print is printed; else it is removed.
+fn settle(program: &[u8], name: &[u8], number: u32, printed: &[u8]) {
+    if !print(program, printed, printed.len()) {
+        remove_part(name, number);
+        return;
+    }
+    if rename_part(name, number) {
+        return;
+    }
+    remove_part(name, number);
+    say_of(name, Remark::Unwritten);
+}
+
+// Prints, and writes the file of that name, if there is something for it: both, or nothing and what is said. What had that name
+// stays whole until the new file is. Whether all that was asked for was done is told, since a study is replaced only then.
+pub fn give(program: &[u8], name: &[u8], printed: &[u8], written: &[u8], whole: bool) {
+    if written.len() == 0 {
+        print(program, printed, printed.len());
+        return;
+    }
+    if !is_free(name, whole) {
+        return;
+    }
+    let number = write_beside(name, written);
+    if number == PARTS {
+        say_of(name, Remark::Unwritten);
+        return;
+    }
+    settle(program, name, number, printed);
 }

@@ -16,11 +16,12 @@ pub enum Input {
 pub enum Remark {
     Unread,
     Unwritten,
-    NoSite,
     NoName,
     NoEntry,
     IsStudy,
     InTheWay,
+    Stays,
+    IsLink,
     NoInput,
     NoOutput,
 }
@@ -79,7 +80,7 @@ pub fn is_either(number: usize, one: usize, other: usize) -> bool
 }
 
 // Puts an argument and a colon, before what is said of it.
-fn put_opening(out: &mut [u8], word: &[u8]) -> usize
+pub fn put_opening(out: &mut [u8], word: &[u8]) -> usize
     requires { ⌜ openingMost ≤ length (now out) ⌝ }
     ensures { λ r. ⌜ Placed (now (out .entry)) 0 (opening (now (word .entry))) (now (out .exit)) r × (r ≤ openingMost) ⌝ }
 {
@@ -103,7 +104,6 @@ fn put_remark(out: &mut [u8], at: usize, remark: Remark) -> usize
     match remark {
         Remark::Unread => text::put_bytes(out, at, b"cannot be read\n"),
         Remark::Unwritten => text::put_bytes(out, at, b"cannot be written\n"),
-        Remark::NoSite => text::put_bytes(out, at, b"the study has no such site\n"),
         Remark::NoName => text::put_bytes(
             out,
             at,
@@ -119,6 +119,16 @@ fn put_remark(out: &mut [u8], at: usize, remark: Remark) -> usize
             out,
             at,
             b"there is such a file and it is no study file, so it stays as it is: name another\n",
+        ),
+        Remark::Stays => text::put_bytes(
+            out,
+            at,
+            b"stays as it was, since not all that was asked for was done: name a new file\n",
+        ),
+        Remark::IsLink => text::put_bytes(
+            out,
+            at,
+            b"this is a symbolic link, which stays as it is: name its file\n",
         ),
         Remark::NoInput => text::put_bytes(out, at, b"standard input cannot be read\n"),
         Remark::NoOutput => text::put_bytes(out, at, b"standard output cannot be written\n"),

@@ -37,6 +37,15 @@ pub fn say_answer(answer: Answer, said: &mut [u8; SAID_BYTES]) -> usize
     put_saying(&saying, size, said)
 }
 
+// Says why a call was refused that had to do with the file of that name.
+pub fn say_answer_of(name: &[u8], answer: Answer, said: &mut [u8; SAID_BYTES]) -> usize
+    ensures { λ r. ⌜ Placed (now (said .entry)) 0 (named (now (name .entry)) (answerText answer)) (now (said .exit)) r ⌝ }
+{
+    let mut saying = [0u8; SAYING_BYTES];
+    let size = text_refusals::say_answer(answer, &mut saying);
+    put_saying_of(name, &saying, size, said)
+}
+
 // Says what is wrong with the text of the file of that name.
 pub fn say_reading(name: &[u8], text: &[u8], reading: Reading, said: &mut [u8; SAID_BYTES]) -> usize
     ensures { λ r. ⌜ Placed (now (said .entry)) 0 (named (now (name .entry)) (readingText (now (text .entry)) reading)) (now (said .exit)) r ⌝ }

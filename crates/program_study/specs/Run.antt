@@ -7,12 +7,14 @@ use Rattle.text.specs.Text.{ascii}
 use Rattle.text_writer.specs.Writer.{junctionText}
 use Rattle.study.specs.Study.{siteLimit, siteEntries}
 use Rattle.program_words.specs.Words.{wordAt}
-use Rattle.program_wish.specs.Wish.{same}
+use Rattle.program_wish.specs.Wish.{same, wishOf, versionText}
+use Rattle.program_wish.specs.declared.Wish.{Wish}
+use Rattle.program_wish.specs.declared.Wish.the-variants.{Help as ForHelp, Version as ForVersion, Work}
 use Rattle.program_outcome.specs.declared.Input.{Input}
-use Rattle.program_outcome.specs.Outcome.{Outcome, printing, withFile}
+use Rattle.program_outcome.specs.Outcome.{Outcome, printing, saying, withFile}
 use Rattle.program_site.specs.Site.{sought, withSite}
 use Rattle.program_study.specs.declared.Job.{Job}
-use Rattle.program_study.specs.declared.Job.the-variants.{Make, Show, TooMany, Use}
+use Rattle.program_study.specs.declared.Job.the-variants.{Make, Show, TooMany, Use, Help, Version}
 
 -- the arguments before the first text: the program's name, the job's, and the study's
 abbrev pub beforeTexts : ℕ
@@ -23,27 +25,37 @@ abbrev pub textsIn : ℕ → ℕ
 textsIn count = min (count - beforeTexts) siteLimit
 
 -- by the number of arguments, the program's name among them, and the job's name
-unfoldable pub jobOf : ℕ → List ℕ → Job
-jobOf count job =
+unfoldable pub workOf : ℕ → List ℕ → Job
+workOf count job =
     cond (same job (ascii "make")) (cond (leb count beforeTexts) Use (cond (ltb siteLimit (count - beforeTexts)) TooMany Make))
     (cond (same job (ascii "show")) (cond (eqb count 4) Show Use) Use)
+
+abbrev pub jobFor : Wish → ℕ → List ℕ → Job
+jobFor ForHelp count job = Help
+jobFor ForVersion count job = Version
+jobFor Work count job = workOf count job
+
+unfoldable pub jobOf : ℕ → List ℕ → Job
+jobOf count job = jobFor (wishOf count job) count job
 
 unfoldable pub studyUse : List ℕ
 studyUse =
     ascii "usage: icustudy make STUDY TEXT ...   makes a study file of the junctions in the texts\n"
     ++ ascii "       icustudy show STUDY SITE       prints a site of a study file as text, sites from 1\n"
 
--- what is said where neither is to be done
-unfoldable pub jobText : Job → List ℕ
-jobText Make = []
-jobText Show = []
-jobText TooMany = ascii "a study holds at most 180 junctions\n"
-jobText Use = studyUse
+-- what is given at once, where nothing is to be made or shown
+unfoldable pub toldOf : Job → Outcome
+toldOf Make = saying []
+toldOf Show = saying []
+toldOf TooMany = saying (ascii "a study holds at most 180 junctions\n")
+toldOf Use = saying studyUse
+toldOf Help = printing studyUse
+toldOf Version = printing versionText
 
 -- the text of the site that a word names
-unfoldable pub showAt : List ℕ → List ℕ → Outcome
-showAt word file = withSite (sought file word) word (λ site. printing (junctionText (siteEntries file site)))
+unfoldable pub showAt : List ℕ → List ℕ → List ℕ → Outcome
+showAt name word file = withSite (sought file word) name word (λ site. printing (junctionText (siteEntries file site)))
 
 -- the words: the job, a study, a site
 unfoldable pub showRun : Input → List ℕ → List ℕ → Outcome
-showRun input words area = withFile input (wordAt words 1) area (showAt (wordAt words 2))
+showRun input words area = withFile input (wordAt words 1) area (showAt (wordAt words 1) (wordAt words 2))

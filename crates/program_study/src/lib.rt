@@ -1,8 +1,11 @@
 // What `icustudy` is asked to do, and what `icustudy show` prints and says: one call, between reading and writing.
 ghost use mathlib.Core.Path.{_≡_};
+ghost use Prim.Native.Nat.{_≤_};
+ghost use lib.ListN.{length};
 ghost use Rattle.text.specs.Text.{Placed};
 ghost use Rattle.program_outcome.specs.Outcome.{Left};
-ghost use Rattle.program_study.specs.Run.{textsIn, jobOf, jobText, showAt, showRun};
+ghost use Rattle.program_study.specs.Run.{textsIn, workOf, jobOf, studyUse, toldOf, showAt, showRun};
+ghost use Rattle.program_study.specs.Working.{useMost};
 use layout::ENTRIES;
 use program_outcome::AREA_BYTES;
 use program_outcome::Input;
@@ -10,6 +13,7 @@ use program_outcome::Lengths;
 use program_outcome::Remark;
 use program_outcome::SAID_BYTES;
 use program_site::Sought;
+use program_wish::Wish;
 use text_writer::TEXT_BYTES;
 
 // Room for what is printed.
@@ -33,11 +37,13 @@ pub enum Job {
     Show,
     TooMany,
     Use,
+    Help,
+    Version,
 }
 
-// What is to be done, by the number of arguments and the job's name.
-pub fn job_of(count: usize, word: &[u8]) -> Job
-    ensures { λ r. ⌜ r ≡ jobOf count (now (word .entry)) ⌝ }
+// What there is to do, by the number of arguments and the job's name.
+fn work_of(count: usize, word: &[u8]) -> Job
+    ensures { λ r. ⌜ r ≡ workOf count (now (word .entry)) ⌝ }
 {
     if program_wish::is_same(word, b"make") {
         if count <= BEFORE_TEXTS {
@@ -57,6 +63,17 @@ pub fn job_of(count: usize, word: &[u8]) -> Job
     Job::Use
 }
 
+// The same, or what is asked for in its place.
+pub fn job_of(count: usize, word: &[u8]) -> Job
+    ensures { λ r. ⌜ r ≡ jobOf count (now (word .entry)) ⌝ }
+{
+    match program_wish::wish_of(count, word) {
+        Wish::Help => Job::Help,
+        Wish::Version => Job::Version,
+        Wish::Work => work_of(count, word),
+    }
+}
+
 // How many texts are to be read, by the number of arguments; a study holds no more.
 pub fn texts_in(count: usize) -> u32
     ensures { λ r. ⌜ r ≡ textsIn count ⌝ }
@@ -71,30 +88,58 @@ pub fn texts_in(count: usize) -> u32
     texts as u32
 }
 
-// Says what is wrong where nothing is to be done.
-pub fn say_job(job: Job, said: &mut [u8; SAID_BYTES]) -> usize
-    ensures { λ r. ⌜ Placed (now (said .entry)) 0 (jobText job) (now (said .exit)) r ⌝ }
+fn put_use(out: &mut [u8]) -> usize
+    requires { ⌜ useMost ≤ length (now out) ⌝ }
+    ensures { λ r. ⌜ Placed (now (out .entry)) 0 studyUse (now (out .exit)) r ⌝ }
+{
+    text::put_bytes(
+        out,
+        0,
+        b"usage: icustudy make STUDY TEXT ...   makes a study file of the junctions in the texts\n       \
+        icustudy show STUDY SITE       prints a site of a study file as text, sites from 1\n",
+    )
+}
+
+// What is given at once, where nothing is to be made or shown: what is wrong, or what is asked for.
+pub fn tell(job: Job, printed: &mut [u8; PRINTED_BYTES], said: &mut [u8; SAID_BYTES]) -> Lengths
+    ensures { λ r. ⌜ Left (toldOf job) (now (printed .entry)) (now (said .entry)) (now (printed .exit)) (now (said .exit)) r ⌝ }
 {
     match job {
-        Job::Make => 0,
-        Job::Show => 0,
-        Job::TooMany => text::put_bytes(said, 0, b"a study holds at most 180 junctions\n"),
-        Job::Use => text::put_bytes(
+        Job::Make => program_outcome::only_said(0),
+        Job::Show => program_outcome::only_said(0),
+        Job::TooMany => program_outcome::only_said(text::put_bytes(
             said,
             0,
-            b"usage: icustudy make STUDY TEXT ...   makes a study file of the junctions in the texts\n       \
-            icustudy show STUDY SITE       prints a site of a study file as text, sites from 1\n",
-        ),
+            b"a study holds at most 180 junctions\n",
+        )),
+        Job::Use => program_outcome::only_said(put_use(said)),
+        Job::Help => {
+            let prints = put_use(printed);
+            Lengths {
+                prints,
+                writes: 0,
+                says: 0,
+            }
+        }
+        Job::Version => {
+            let prints = program_wish::put_version(printed);
+            Lengths {
+                prints,
+                writes: 0,
+                says: 0,
+            }
+        }
     }
 }
 
 fn show_site(
+    name: &[u8],
     word: &[u8],
     file: &[u8],
     printed: &mut [u8; PRINTED_BYTES],
     said: &mut [u8; SAID_BYTES],
 ) -> Lengths
-    ensures { λ r. ⌜ Left (showAt (now (word .entry)) (now (file .entry)))
+    ensures { λ r. ⌜ Left (showAt (now (name .entry)) (now (word .entry)) (now (file .entry)))
         (now (printed .entry)) (now (said .entry)) (now (printed .exit)) (now (said .exit)) r ⌝ }
 {
     let mut entries = [0u32; ENTRIES];
@@ -108,11 +153,11 @@ fn show_site(
                 says: 0,
             }
         }
-        Sought::Missing => {
-            program_outcome::only_said(program_site::say_site(sought, word, said))
+        Sought::Missing(_) => {
+            program_outcome::only_said(program_site::say_site(sought, name, word, said))
         }
         Sought::Bad(_, _) => {
-            program_outcome::only_said(program_site::say_site(sought, word, said))
+            program_outcome::only_said(program_site::say_site(sought, name, word, said))
         }
     }
 }
@@ -128,10 +173,10 @@ pub fn show(
     ensures { λ r. ⌜ Left (showRun input (now (words .entry)) (now (area .entry)))
         (now (printed .entry)) (now (said .entry)) (now (printed .exit)) (now (said .exit)) r ⌝ }
 {
+    let name = program_words::word(words, STUDY);
     let Input::Read(size) = input else {
-        let name = program_words::word(words, STUDY);
         return program_outcome::only_said(program_outcome::say(name, Remark::Unread, said));
     };
     let file = program_outcome::front(area, size);
-    show_site(program_words::word(words, SITE), file, printed, said)
+    show_site(name, program_words::word(words, SITE), file, printed, said)
 }

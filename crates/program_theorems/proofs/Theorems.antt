@@ -17,11 +17,12 @@ use Rattle.program_outcome.specs.declared.Lengths.{Lengths}
 use Rattle.program_outcome.specs.Outcome.{Outcome, Left}
 use Rattle.program_sheet.specs.Run.{sheetRun}
 use Rattle.program_amend.specs.Run.{amendRun}
-use Rattle.program_study.specs.Run.{jobText, showRun}
+use Rattle.program_study.specs.Run.{toldOf, showRun}
 use Rattle.program_make.specs.Make.{textSays, textAdds, studyOf}
 use Rattle.program_make.specs.Steps.{Typed, made, steps, finished}
 use Rattle.program_make.proofs.Made.{made-of-texts as texts-made}
 use Rattle.program_list.specs.Run.{listRun}
+use Rattle.program_target.specs.Target.{targetText}
 use Rattle.program_sheet.proofs.run as sheet
 use Rattle.program_sheet.proofs.run.Statement as sheet-stated
 use Rattle.program_sheet.proofs.run.Reads as sheet-reads
@@ -30,10 +31,10 @@ use Rattle.program_amend.proofs.run as amend
 use Rattle.program_amend.proofs.run.Statement as amend-stated
 use Rattle.program_amend.proofs.run.Reads as amend-reads
 use Rattle.program_amend.proofs.run.Met as amend-met
-use Rattle.program_study.proofs.say_job as job
-use Rattle.program_study.proofs.say_job.Statement as job-stated
-use Rattle.program_study.proofs.say_job.Reads as job-reads
-use Rattle.program_study.proofs.say_job.Met as job-met
+use Rattle.program_study.proofs.tell as tell
+use Rattle.program_study.proofs.tell.Statement as tell-stated
+use Rattle.program_study.proofs.tell.Reads as tell-reads
+use Rattle.program_study.proofs.tell.Met as tell-met
 use Rattle.program_study.proofs.show as show
 use Rattle.program_study.proofs.show.Statement as show-stated
 use Rattle.program_study.proofs.show.Reads as show-reads
@@ -50,6 +51,10 @@ use Rattle.program_list.proofs.run as list
 use Rattle.program_list.proofs.run.Statement as list-stated
 use Rattle.program_list.proofs.run.Reads as list-reads
 use Rattle.program_list.proofs.run.Met as list-met
+use Rattle.program_target.proofs.judge as target
+use Rattle.program_target.proofs.judge.Statement as target-stated
+use Rattle.program_target.proofs.judge.Reads as target-reads
+use Rattle.program_target.proofs.judge.Met as target-met
 
 -- ANY TWO OUTCOMES of what is put at the front of an area agree, and so do those of a program's three texts.
 pub placed-agree :
@@ -106,13 +111,14 @@ pub amend-promises :
     (Placed (now (a .1 .1 .1 .1 .0)) 0 (run .writes) (now (s .1 .1 .1 .1 .0)) (r .writes))
 amend-promises κs a r s w = refl
 
-pub job-keeps : {M : Type 1} → job-stated.statement M
-job-keeps = job-met.met
+pub tell-keeps : {M : Type 1} → tell-stated.statement M
+tell-keeps = tell-met.met
 
-pub job-promises :
-    (κs : Lfts 1) (a : ArgsD job.signature κs) (r : ResD job.signature κs) (s : AtExit job.ended κs) (w : World)
-    → Exactly w (job-reads.ensures κs a tt r s w) (Placed (now (a .1 .0)) 0 (jobText (a .0)) (now (s .1 .0)) r)
-job-promises κs a r s w = refl
+pub tell-promises :
+    (κs : Lfts 2) (a : ArgsD tell.signature κs) (r : ResD tell.signature κs) (s : AtExit tell.ended κs) (w : World)
+    → Exactly w (tell-reads.ensures κs a tt r s w)
+    (Left (toldOf (a .0)) (now (a .1 .0)) (now (a .1 .1 .0)) (now (s .1 .0)) (now (s .1 .1 .0)) r)
+tell-promises κs a r s w = refl
 
 pub show-keeps : {M : Type 1} → show-stated.statement M
 show-keeps = show-met.met
@@ -147,7 +153,17 @@ pub list-keeps : {M : Type 1} → list-stated.statement M
 list-keeps = list-met.met
 
 pub list-promises :
-    (κs : Lfts 3) (a : ArgsD list.signature κs) (r : ResD list.signature κs) (s : AtExit list.ended κs) (w : World)
+    (κs : Lfts 4) (a : ArgsD list.signature κs) (r : ResD list.signature κs) (s : AtExit list.ended κs) (w : World)
     → Exactly w (list-reads.ensures κs a tt r s w)
-    (Left (listRun (a .0) (now (a .1 .0))) (now (a .1 .1 .0)) (now (a .1 .1 .1 .0)) (now (s .1 .1 .0)) (now (s .1 .1 .1 .0)) r)
+    (Left (listRun (a .0) (now (a .1 .0)) (now (a .1 .1 .0))) (now (a .1 .1 .1 .0)) (now (a .1 .1 .1 .1 .0)) (now (s .1 .1 .1 .0))
+    (now (s .1 .1 .1 .1 .0)) r)
 list-promises κs a r s w = refl
+
+pub target-keeps : {M : Type 1} → target-stated.statement M
+target-keeps = target-met.met
+
+pub target-promises :
+    (κs : Lfts 3) (a : ArgsD target.signature κs) (r : ResD target.signature κs) (s : AtExit target.ended κs) (w : World)
+    → Exactly w (target-reads.ensures κs a tt r s w)
+    (Placed (now (a .1 .1 .1 .1 .0)) 0 (targetText (a .0) (now (a .1 .0)) (now (a .1 .1 .0)) (a .1 .1 .1 .0)) (now (s .1 .1 .1 .1 .0)) r)
+target-promises κs a r s w = refl

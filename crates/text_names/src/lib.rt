@@ -235,7 +235,7 @@ pub fn is_last(entry: u32) -> bool
 }
 
 fn entry_for(title: u32, row: u32) -> u32
-    ensures { λ r. ⌜ r ≡ entryFor title row ⌝ }
+    ensures { λ r. ⌜ (r ≡ entryFor title row) × (r ≤ entryCount) ⌝ }
 {
     if TITLES <= title {
         return ENTRIES;
@@ -254,7 +254,7 @@ fn entry_for(title: u32, row: u32) -> u32
 
 // The entry that two words name, as `EBL` and `lanes`; ENTRIES if they name none.
 pub fn entry_named(title: &[u8], kind: &[u8]) -> u32
-    ensures { λ r. ⌜ r ≡ entryNamed (now (title .entry)) (now (kind .entry)) ⌝ }
+    ensures { λ r. ⌜ (r ≡ entryNamed (now (title .entry)) (now (kind .entry))) × (r ≤ entryCount) ⌝ }
 {
     let named = row_of(title);
     entry_for(named, row_of(kind))

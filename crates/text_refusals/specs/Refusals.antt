@@ -2,7 +2,7 @@
 use Prim.Native.Nat.{ℕ, _+_}
 use mathlib.Core.Bool.{cond}
 use mathlib.Core.List.{List, [], _++_}
-use lib.Dec.{ltb}
+use lib.Dec.{eqb, ltb}
 use Rattle.layout.specs.Entries.{approachCount}
 use Rattle.answers.specs.Answers.{refusalNumber}
 use Rattle.answers.specs.declared.Refusal.{Refusal}
@@ -34,9 +34,10 @@ rangeText entry = entryName entry ++ ascii " is outside " ++ limitsText (kindAt 
 abbrev pub approachRow : ℕ → ℕ
 approachRow approach = cond (ltb approach approachCount) (approaches .title + approach) wordCount
 
--- "the study file is badly laid out at byte 4"
+-- "the study file is badly laid out at byte 4"; bytes that do not open as a study file are none
 unfoldable pub fileText : ℕ → List ℕ
-fileText place = numbered (ascii "the study file is badly laid out at byte ") place ++ ascii "\n"
+fileText place =
+    cond (eqb place 0) (ascii "this is no study file\n") (numbered (ascii "the study file is badly laid out at byte ") place ++ ascii "\n")
 
 -- a row for each refusal
 unfoldable pub whyText : Refusal → ℕ → List ℕ

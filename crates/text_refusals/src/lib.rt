@@ -51,6 +51,9 @@ fn put_file(out: &mut [u8], at: usize, place: u32) -> usize
     requires { ⌜ at + whyMost ≤ length (now out) ⌝ }
     ensures { λ r. ⌜ Placed (now (out .entry)) at (fileText place) (now (out .exit)) r × (r ≤ at + whyMost) ⌝ }
 {
+    if place == 0 {
+        return text::put_bytes(out, at, b"this is no study file\n");
+    }
     let end = text_phrases::put_numbered(
         out,
         at,

@@ -19,11 +19,11 @@ returns c =
 
 returns-2 : tie.Need-returns-2
 unfolding changeField
-returns-2 c = rw (c .shown-cell .ensures, c .before .match .keys2)
+returns-2 c = rw (c .held-cell .ensures, c .before .match .keys2)
 
 returns-3 : tie.Need-returns-3
 unfolding changeField
-returns-3 c = rw (c .shown-cell2 .ensures, c .before .match .keys3)
+returns-3 c = rw (c .shown-cell .ensures, c .before .match .keys3)
 
 returns-4 : tie.Need-returns-4
 unfolding changeField

@@ -1,13 +1,12 @@
 use Rattle.text.specs.Text.{ascii}
 use Rattle.program_amend.specs.Run.{amendUse}
-use native.Mathlib.Omega.{arith}
 use borrow.Author.Needs.{needs}
 use Rattle.program_amend.proofs.put_use.Statement.{statement}
 use Rattle.program_amend.proofs.put_use.Tie as tie
 
 returns : tie.Need-returns
 unfolding amendUse ascii
-returns c = (c .before .before .put-bytes .ensures, omega arith)
+returns c = c .before .before .put-bytes .ensures
 
 pub put-use-spec : {M : Type 1} → statement M
 put-use-spec = tie.close (tie.spec (search needs) (search needs) (search needs) returns)

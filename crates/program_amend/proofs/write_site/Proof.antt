@@ -3,14 +3,14 @@ use native.Mathlib.Omega.{arith}
 use Rattle.program_amend.proofs.write_site.Statement.{statement}
 use Rattle.program_amend.proofs.write_site.Tie as tie
 
-put-site-requires : tie.Need-put-site-requires
-put-site-requires c κs = (c .before .before .before .before .pre, omega arith)
+put-requires : tie.Need-put-requires
+put-requires c κs = (c .before .before .before .before .pre, omega arith)
 
 returns : tie.Need-returns
-returns c = rw (c .before .before .before .if1 .taken) (c .put-site .ensures)
+returns c = rw (c .before .before .before .if1 .taken) (c .put .ensures)
 
 returns-2 : tie.Need-returns-2
 returns-2 c = rw (c .if1 .left) (placed-nothing _ 0)
 
 pub write-site-spec : {M : Type 1} → statement M
-write-site-spec = tie.close (tie.spec put-site-requires returns returns-2)
+write-site-spec = tie.close (tie.spec put-requires returns returns-2)

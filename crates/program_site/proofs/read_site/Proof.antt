@@ -1,5 +1,5 @@
 -- `program_site::read_site`. Each way out is one of the definition's cases; a good file's count is its number of sites.
-use Rattle.program_site.proofs.Laws.{bad-file, missing, there, had}
+use Rattle.program_site.proofs.Laws.{bad-file, counted, missing, there, had}
 use Rattle.program_site.specs.Site.{siteNamed}
 use Rattle.study.specs.Study.{siteEntries}
 use mathlib.Core.Path.{sym, _∙_}
@@ -25,7 +25,8 @@ returns-2 c =
     let good = sym (check .check .ensures) ∙ told .enum-told .given .1 in
     let past = rw (count .count .ensures .0, site .site-of .ensures, site .before .number-of .ensures) at (c .if1 .taken) in
     let is = missing (args .file .now) (args .word .now) good past in
-    (sym is, rw is)
+    let sites = count .count .ensures .0 ∙ counted (args .file .now) (args .word .now) good in
+    (rw sites (sym is), rw is)
 
 returns-3 : tie.Need-returns-3
 returns-3 c =
@@ -40,7 +41,8 @@ returns-3 c =
     let within = rw (count .count .ensures .0, named) at (test .if1 .left) in
     let is = there (args .file .now) (args .word .now) good within in
     let old = args .entries .now in
-    let entries = had (args .file .now) (args .word .now) (length old) (siteEntries (args .file .now) (siteNamed (args .word .now))) old (omega arith) good within in
+    let new = siteEntries (args .file .now) (siteNamed (args .word .now)) in
+    let entries = had (args .file .now) (args .word .now) (length old) new old (omega arith) good within in
     (rw (is, named), rw is (rw (named, entries) at (c .site-entries .ensures .1)))
 
 pub read-site-spec : {M : Type 1} → statement M

@@ -1,50 +1,25 @@
--- `program_study::job_of`. The definition asks the same tests: each way through them is one of its cases.
+-- `program_study::job_of`. A case for each wish.
 use Rattle.program_study.specs.Run.{jobOf}
-use Rattle.text.specs.Text.{ascii}
 use mathlib.Core.Path.{sym, _∙_}
-use borrow.Author.Tests.{lt-ltb, le-ltb, lt-leb, le-leb, eq-eqb, ne-eqb}
 use borrow.Author.Needs.{needs}
 use Rattle.program_study.proofs.job_of.Statement.{statement}
 use Rattle.program_study.proofs.job_of.Tie as tie
 
 returns : tie.Need-returns
-unfolding jobOf ascii
-returns c = rw (sym (c .before .before .is-same .ensures) ∙ c .before .if1 .taken, le-leb _ _ (c .if2 .taken))
+unfolding jobOf
+returns c = rw (sym (c .before .before .wish-of .ensures) ∙ c .enum-told .given .1)
 
 returns-2 : tie.Need-returns-2
-unfolding jobOf ascii
-returns-2 c =
-    let test = c .before .before in
-    rw (sym (test .before .is-same .ensures) ∙ test .if1 .taken, lt-leb _ _ (c .before .if2 .left), lt-ltb _ _ (c .if3 .taken))
+unfolding jobOf
+returns-2 c = rw (sym (c .before .before .wish-of .ensures) ∙ c .enum-told2 .given .1)
 
 returns-3 : tie.Need-returns-3
-unfolding jobOf ascii
+unfolding jobOf
 returns-3 c =
-    let test = c .before .before in
-    rw (sym (test .before .is-same .ensures) ∙ test .if1 .taken, lt-leb _ _ (c .before .if2 .left), le-ltb _ _ (c .if3 .left))
-
-returns-4 : tie.Need-returns-4
-unfolding jobOf ascii
-returns-4 c =
-    let second = c .before in
-    let first = second .before .before .before in
-    rw (sym (first .before .is-same .ensures) ∙ first .if1 .left, sym (second .before .is-same2 .ensures) ∙ second .if4 .taken, eq-eqb _ _ (c .if5 .taken))
-
-returns-5 : tie.Need-returns-5
-unfolding jobOf ascii
-returns-5 c =
-    let second = c .before in
-    let first = second .before .before .before in
-    rw (sym (first .before .is-same .ensures) ∙ first .if1 .left, sym (second .before .is-same2 .ensures) ∙ second .if4 .taken, ne-eqb _ _ (c .if5 .left))
-
-returns-6 : tie.Need-returns-6
-unfolding jobOf ascii
-returns-6 c =
-    let first = c .before .before .before in
-    rw (sym (first .before .is-same .ensures) ∙ first .if1 .left, sym (c .before .is-same2 .ensures) ∙ c .if4 .left)
+    let told = c .before in
+    rw (sym (told .before .before .wish-of .ensures) ∙ told .enum-told3 .given .1) (c .work-of .ensures)
 
 pub job-of-spec : {M : Type 1} → statement M
 job-of-spec =
     tie.close
-    (tie.spec (search needs) (search needs) returns (search needs) returns-2 returns-3 (search needs) (search needs) returns-4 returns-5
-    returns-6)
+    (tie.spec (search needs) (search needs) (search needs) (search needs) (search needs) returns returns-2 returns-3)

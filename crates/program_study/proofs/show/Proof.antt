@@ -8,15 +8,18 @@ use Rattle.program_study.proofs.show.Tie as tie
 returns : tie.Need-returns
 unfolding showRun
 returns c =
-    let word = c .before .before .before in
-    rw (word .before .enum-told .given .1, c .only-said .ensures) (left-saying (rw (word .word .ensures) at (c .before .say .ensures)))
+    let told = c .before .before .before in
+    let word = told .before .before in
+    rw (told .enum-told .given .1, c .only-said .ensures) (left-saying (rw (word .word .ensures) at (c .before .say .ensures)))
 
 returns-2 : tie.Need-returns-2
 unfolding showRun
 returns-2 c =
     let word = c .before .before .before in
     let front = word .before in
-    rw (front .before .before .before .input .given .1) (rw (word .word2 .ensures, front .front .ensures .0) at (c .show-site .ensures))
+    let input = front .before .before .before in
+    let name = input .before .before in
+    rw (input .input .given .1) (rw (name .word .ensures, word .word2 .ensures, front .front .ensures .0) at (c .show-site .ensures))
 
 pub show-spec : {M : Type 1} → statement M
 show-spec =

@@ -1,0 +1,89 @@
+-- Laws of changes made one after the other: what one more adds, and that entries with a change made are acceptable.
+use Prim.Native.Nat.{ℕ, zero, suc, _+_, _≤_}
+use mathlib.Core.Path.{_≡_, refl}
+use mathlib.Core.Bool.{Bool, true, false, cond, _||_}
+use mathlib.Core.List.{List}
+use lib.ListN.{length, set}
+use lib.Dec.{eqb, leb}
+use native.Mathlib.Numerals.{add-one}
+use native.Mathlib.Omega.{arith}
+use Rattle.answers.specs.declared.Answer.{Answer}
+use Rattle.answers.specs.declared.Answer.the-variants.{Accepted, Refused as No}
+use Rattle.layout.specs.Entries.{entryCount}
+use Rattle.kinds.specs.Kinds.{kindAt}
+use Rattle.entries.specs.Judging.{judged}
+use Rattle.text.specs.Text.{Placed}
+use Rattle.text.proofs.Laws.{placed-after}
+use Rattle.text_names.specs.Names.{titleCount, rowOf, entryNamed}
+use Rattle.text_values.specs.declared.Value.{Value}
+use Rattle.text_values.specs.declared.Value.the-variants.{Is, Not}
+use Rattle.text_values.specs.Values.{valueOf}
+use Rattle.program_changes.specs.declared.Done.{Done}
+use Rattle.program_changes.specs.declared.Verdict.{Verdict}
+use Rattle.program_changes.specs.declared.Verdict.the-variants.{Made, Refused, NoName, NoEntry, NotValue}
+use Rattle.program_changes.specs.Changes.{verdictBy, verdictFor, verdictOf, verdictIn, entriesAfter, isMade, told, changesTo}
+use Rattle.program_changes.specs.Working.{Came}
+
+-- one change more
+module _ (several : Bool) (words e : List ℕ) (n : ℕ) where
+  pub came-more : {said entries′ said′ entries″ said″ : List ℕ} {done done′ : Done}
+      → Came (changesTo several words e n) said entries′ said′ done
+      → entries″ ≡ entriesAfter (verdictIn words n entries′) entries′
+      → done′ .made ≡ done .made || isMade (verdictIn words n entries′)
+      → Placed said′ (done .says) (told several words n (verdictIn words n entries′)) said″ (done′ .says)
+      → done′ .says ≤ length said
+      → Came (changesTo several words e (n + 1)) said entries″ said″ done′
+  unfolding changesTo
+  came-more so entries made says fits =
+      rw (add-one n)
+      (record {
+        entries = rw (so .entries) at entries;
+        made = rw (so .entries, so .made) at made;
+        says = placed-after (so .says) (rw (so .entries) at says) fits;
+      })
+
+-- a change that is made leaves acceptable entries
+verdict-made : (title kind value e : List ℕ) {i x : ℕ} → verdictOf title kind value e ≡ Made i x → judged (set e i x) ≡ Accepted
+unfolding verdictOf
+verdict-made title kind value e {i} {x} is =
+    by (leb titleCount (rowOf title)) (eqb j entryCount) (valueOf (kindAt j) value) is
+  where
+    j : ℕ
+    j = entryNamed title kind
+
+    tried : (number : ℕ) (a : Answer) → judged (set e (entryNamed title kind) number) ≡ a
+        → verdictBy a (entryNamed title kind) number ≡ Made i x
+        → judged (set e i x) ≡ Accepted
+    tried number Accepted good made =
+        let same : entryNamed title kind ≡ i = cc in
+        let new : number ≡ x = cc in
+        rw (← same, ← new) good
+    tried number (No why place) bad made = absurd (let z : _≡_ {A = ℕ} 0 1 = cc in omega arith)
+
+    by : (no none : Bool) (v : Value) → cond no NoName (cond none NoEntry (verdictFor (entryNamed title kind) v e)) ≡ Made i x
+        → judged (set e i x) ≡ Accepted
+    by true none v made = absurd (let z : _≡_ {A = ℕ} 0 1 = cc in omega arith)
+    by false true v made = absurd (let z : _≡_ {A = ℕ} 0 1 = cc in omega arith)
+    by false false (Is number) made = tried number (judged (set e (entryNamed title kind) number)) refl made
+    by false false (Not why) made = absurd (let z : _≡_ {A = ℕ} 0 1 = cc in omega arith)
+
+made-before : (made : Bool) → made || false ≡ true → made ≡ true
+made-before true h = refl
+made-before false h = h
+
+module _ (several : Bool) (words e : List ℕ) where
+  pub made-acceptable : (n : ℕ) → changesTo several words e n .made ≡ true → judged (changesTo several words e n .entries) ≡ Accepted
+  unfolding changesTo verdictIn
+  made-acceptable zero made = absurd (let z : _≡_ {A = ℕ} 0 1 = cc in omega arith)
+  made-acceptable (suc n) made =
+      by (verdictIn words n (changesTo several words e n .entries)) refl (λ h. made-acceptable n (made-before _ h)) made
+    where
+      by : (v : Verdict) → verdictIn words n (changesTo several words e n .entries) ≡ v
+          → (changesTo several words e n .made || false ≡ true → judged (changesTo several words e n .entries) ≡ Accepted)
+          → changesTo several words e n .made || isMade v ≡ true
+          → judged (entriesAfter v (changesTo several words e n .entries)) ≡ Accepted
+      by (Made i x) is before h = verdict-made _ _ _ (changesTo several words e n .entries) is
+      by (Refused why place) is before h = before h
+      by NoName is before h = before h
+      by NoEntry is before h = before h
+      by (NotValue why) is before h = before h

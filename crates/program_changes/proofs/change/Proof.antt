@@ -1,0 +1,71 @@
+-- Each way to return is a case of the definition: a title, then an entry under it, then the entry's value by its kind.
+use Rattle.program_changes.specs.Changes.{verdictOf}
+use mathlib.Core.Path.{refl}
+use borrow.Author.Tests.{le-leb, lt-leb, eq-eqb, ne-eqb}
+use borrow.Author.Needs.{needs}
+use Rattle.program_changes.proofs.change.Statement.{statement}
+use Rattle.program_changes.proofs.change.Tie as tie
+
+returns : tie.Need-returns
+unfolding verdictOf
+returns c = (rw (← c .before .row-of .ensures .0, le-leb _ _ (c .if1 .taken)), refl)
+
+returns-2 : tie.Need-returns-2
+unfolding verdictOf
+returns-2 c =
+    let named = c .before in
+    let test = named .before in (
+      rw (
+        ← named .entry-named .ensures .0,
+        ← test .before .row-of .ensures .0,
+        lt-leb _ _ (test .if1 .left),
+        eq-eqb _ _ (c .if2 .taken),
+      ),
+      refl,
+    )
+
+returns-3 : tie.Need-returns-3
+unfolding verdictOf
+returns-3 c =
+    let told = c .before .before .before in
+    let read = told .before .before in
+    let found = read .before .before in
+    let named = found .before in
+    let test = named .before in (
+      rw (
+        ← named .entry-named .ensures .0,
+        ← test .before .row-of .ensures .0,
+        lt-leb _ _ (test .if1 .left),
+        ne-eqb _ _ (found .if2 .left),
+        ← read .before .at .ensures,
+        ← read .value-of .ensures,
+        told .word .given .1,
+      ) (c .try-entry .ensures .0),
+      c .try-entry .ensures .1,
+    )
+
+returns-4 : tie.Need-returns-4
+unfolding verdictOf
+returns-4 c =
+    let told = c .before in
+    let read = told .before .before in
+    let found = read .before .before in
+    let named = found .before in
+    let test = named .before in (
+      rw (
+        ← named .entry-named .ensures .0,
+        ← test .before .row-of .ensures .0,
+        lt-leb _ _ (test .if1 .left),
+        ne-eqb _ _ (found .if2 .left),
+        ← read .before .at .ensures,
+        ← read .value-of .ensures,
+        told .word2 .given .1,
+      ),
+      refl,
+    )
+
+pub change-spec : {M : Type 1} → statement M
+change-spec =
+    tie.close
+    (tie.spec (search needs) returns (search needs) returns-2 (search needs) (search needs) (search needs) (search needs) (search needs)
+    (search needs) returns-3 returns-4)

@@ -1,0 +1,251 @@
+// The changes that `icuamend` is asked for, made one after the other; one that is not made is told and passed over.
+ghost use mathlib.Core.Path.{_≡_};
+ghost use mathlib.Core.Bool.{_||_};
+ghost use Prim.Native.Nat.{_+_, _≤_, _<_};
+ghost use lib.ListN.{length, take, set};
+ghost use Rattle.layout.specs.Entries.{entryCount};
+ghost use Rattle.entries.specs.Judging.{judged};
+ghost use Rattle.text.specs.Text.{Placed};
+ghost use Rattle.program_changes.specs.Changes.{mostChanges, verdictBy, verdictOf, entriesAfter, isMade, changeWords, wordOfChange, verdictIn};
+ghost use Rattle.program_changes.specs.Changes.{verdictText, heading, told, changedBy};
+ghost use Rattle.program_changes.specs.Working.{verdictMost, headingMost, sentenceMost, saidMost, Came};
+use answers::Answer;
+use answers::Refusal;
+use kinds::Kind;
+use layout::ENTRIES;
+use program_outcome::Remark;
+use text_values::Trouble;
+use text_values::Value;
+
+// The most changes of one call.
+pub const MOST_CHANGES: usize = 20;
+
+// A study and a site stand before the changes, each of which is a title, a kind and a value.
+pub const CHANGES_FROM: usize = 2;
+
+pub const CHANGE_WORDS: usize = 3;
+
+const TITLE: usize = 0;
+
+const KIND: usize = 1;
+
+const VALUE: usize = 2;
+
+// "change ", a number and ": ".
+const HEADING_BYTES: usize = 19;
+
+// Room for a sentence of each change.
+pub const SAID_BYTES: usize = MOST_CHANGES * (HEADING_BYTES + program_outcome::SAID_BYTES);
+
+// What a change comes to: an entry has its new value, or why not.
+pub enum Verdict {
+    Made(u32, u32),
+    Refused(Refusal, u32),
+    NoName,
+    NoEntry,
+    NotValue(Trouble),
+}
+
+// What the changes so far came to: whether one was made, and how many bytes are said of those that were not.
+pub struct Done {
+    pub made: bool,
+    pub says: usize,
+}
+
+fn judge(entries: &[u32; ENTRIES]) -> Answer
+    ensures { λ r. ⌜ r ≡ judged (now (entries .entry)) ⌝ }
+{
+    entries::judge(entries)
+}
+
+// Gives an entry its new value, if the entries are acceptable as they would stand.
+fn try_entry(entries: &mut [u32; ENTRIES], entry: u32, value: u32) -> Verdict
+    requires { ⌜ entry < entryCount ⌝ }
+    ensures { λ r. ⌜ r ≡ verdictBy (judged (set (now (entries .entry)) entry value)) entry value ⌝ }
+    ensures { λ r. ⌜ now (entries .exit) ≡ entriesAfter r (now (entries .entry)) ⌝ }
+{
+    let mut changed = *entries;
+    changed[entry as usize] = value;
+    let answer = judge(&changed);
+    match answer {
+        Answer::Accepted => {
+            *entries = changed;
+            Verdict::Made(entry, value)
+        }
+        Answer::Refused(why, place) => Verdict::Refused(why, place),
+    }
+}
+
+// Makes the change that three words ask for, if it can be made.
+fn change(title: &[u8], kind: &[u8], value: &[u8], entries: &mut [u32; ENTRIES]) -> Verdict
+    ensures { λ r. ⌜ r ≡ verdictOf (now (title .entry)) (now (kind .entry)) (now (value .entry)) (now (entries .entry)) ⌝ }
+    ensures { λ r. ⌜ now (entries .exit) ≡ entriesAfter r (now (entries .entry)) ⌝ }
+{
+    if text_names::TITLES <= text_names::row_of(title) {
+        return Verdict::NoName;
+    }
+    let entry = text_names::entry_named(title, kind);
+    if entry == text_names::ENTRIES {
+        return Verdict::NoEntry;
+    }
+    let word = text_values::value_of(Kind::at(entry as usize), value);
+    match word {
+        Value::Is(number) => try_entry(entries, entry, number),
+        Value::Not(why) => Verdict::NotValue(why),
+    }
+}
+
+// Word k of change n.
+fn word_of(words: &[u8], n: usize, k: usize) -> &[u8]
+    requires { ⌜ (n < mostChanges) × (k < changeWords) ⌝ }
+    ensures { λ r. ⌜ now r ≡ wordOfChange (now (words .entry)) n k ⌝ }
+{
+    program_words::word(words, CHANGES_FROM + CHANGE_WORDS * n + k)
+}
+
+fn change_in(words: &[u8], n: usize, entries: &mut [u32; ENTRIES]) -> Verdict
+    requires { ⌜ n < mostChanges ⌝ }
+    ensures { λ r. ⌜ r ≡ verdictIn (now (words .entry)) n (now (entries .entry)) ⌝ }
+    ensures { λ r. ⌜ now (entries .exit) ≡ entriesAfter r (now (entries .entry)) ⌝ }
+{
+    let title = word_of(words, n, TITLE);
+    let kind = word_of(words, n, KIND);
+    change(title, kind, word_of(words, n, VALUE), entries)
+}
+
+fn is_made(verdict: Verdict) -> bool
+    ensures { λ r. ⌜ r ≡ isMade verdict ⌝ }
+{
+    match verdict {
+        Verdict::Made(_, _) => true,
+        Verdict::Refused(_, _) => false,
+        Verdict::NoName => false,
+        Verdict::NoEntry => false,
+        Verdict::NotValue(_) => false,
+    }
+}
+
+// Says why a change was not made, of the word that is wrong.
+fn say_verdict(
+    verdict: Verdict,
+    words: &[u8],
+    n: usize,
+    said: &mut [u8; program_outcome::SAID_BYTES],
+) -> usize
+    requires { ⌜ n < mostChanges ⌝ }
+    ensures { λ r. ⌜ Placed (now (said .entry)) 0 (verdictText verdict (now (words .entry)) n) (now (said .exit)) r ⌝ }
+{
+    match verdict {
+        Verdict::Made(_, _) => 0,
+        Verdict::Refused(why, place) => {
+            program_refusals::say_answer(Answer::Refused(why, place), said)
+        }
+        Verdict::NoName => program_outcome::say(word_of(words, n, TITLE), Remark::NoName, said),
+        Verdict::NoEntry => program_outcome::say(word_of(words, n, KIND), Remark::NoEntry, said),
+        Verdict::NotValue(why) => {
+            program_refusals::say_trouble(word_of(words, n, VALUE), why, said)
+        }
+    }
+}
+
+// Puts the change's number, where there are several.
+fn put_heading(out: &mut [u8], at: usize, several: bool, n: usize) -> usize
+    requires { ⌜ (at + headingMost ≤ length (now out)) × (n < mostChanges) ⌝ }
+    ensures { λ r. ⌜ Placed (now (out .entry)) at (heading several n) (now (out .exit)) r × (r ≤ at + headingMost) ⌝ }
+{
+    if several {
+        let end = text_phrases::put_numbered(out, at, b"change ", (n + 1) as u32);
+        return text::put_bytes(out, end, b": ");
+    }
+    at
+}
+
+// Puts a sentence that was made apart.
+fn put_sentence(
+    out: &mut [u8],
+    at: usize,
+    sentence: &[u8; program_outcome::SAID_BYTES],
+    size: usize,
+) -> usize
+    requires { ⌜ at + verdictMost ≤ length (now out) ⌝ }
+    ensures { λ r. ⌜ Placed (now (out .entry)) at (take size (now (sentence .entry))) (now (out .exit)) r × (r ≤ at + verdictMost) ⌝ }
+{
+    text::put_bytes(out, at, program_outcome::front(sentence, size))
+}
+
+// Puts what is said of a change past its heading.
+fn put_verdict(out: &mut [u8], at: usize, verdict: Verdict, words: &[u8], n: usize) -> usize
+    requires { ⌜ (at + verdictMost ≤ length (now out)) × (n < mostChanges) ⌝ }
+    ensures { λ r. ⌜ Placed (now (out .entry)) at (verdictText verdict (now (words .entry)) n) (now (out .exit)) r × (r ≤ at + verdictMost) ⌝ }
+{
+    let mut sentence = [0u8; program_outcome::SAID_BYTES];
+    let size = say_verdict(verdict, words, n, &mut sentence);
+    put_sentence(out, at, &sentence, size)
+}
+
+// Tells of a change that was not made.
+fn tell(out: &mut [u8], at: usize, several: bool, words: &[u8], n: usize, verdict: Verdict) -> usize
+    requires { ⌜ (at + sentenceMost ≤ length (now out)) × (n < mostChanges) ⌝ }
+    ensures { λ r. ⌜ Placed (now (out .entry)) at (told several (now (words .entry)) n verdict) (now (out .exit)) r × (r ≤ at + sentenceMost) ⌝ }
+{
+    if is_made(verdict) {
+        return at;
+    }
+    let headed = put_heading(out, at, several, n);
+    put_verdict(out, headed, verdict, words, n)
+}
+
+// Makes change n, or tells why not.
+fn step(
+    words: &[u8],
+    n: usize,
+    several: bool,
+    entries: &mut [u32; ENTRIES],
+    said: &mut [u8],
+    so: Done,
+) -> Done
+    requires { ⌜ (so .says + sentenceMost ≤ length (now said)) × (n < mostChanges) ⌝ }
+    ensures { λ r. ⌜ now (entries .exit) ≡ entriesAfter (verdictIn (now (words .entry)) n (now (entries .entry))) (now (entries .entry)) ⌝ }
+    ensures { λ r. ⌜ r .made ≡ so .made || isMade (verdictIn (now (words .entry)) n (now (entries .entry))) ⌝ }
+    ensures { λ r. ⌜ Placed (now (said .entry)) (so .says) (told several (now (words .entry)) n (verdictIn (now (words .entry)) n (now (entries .entry))))
+        (now (said .exit)) (r .says) × (r .says ≤ so .says + sentenceMost) ⌝ }
+{
+    let verdict = change_in(words, n, entries);
+    let says = tell(said, so.says, several, words, n, verdict);
+    Done {
+        made: so.made || is_made(verdict),
+        says,
+    }
+}
+
+fn change_each(words: &[u8], changes: usize, entries: &mut [u32; ENTRIES], said: &mut [u8]) -> Done
+    requires { ⌜ (changes ≤ mostChanges) × (length (now said) ≡ saidMost) ⌝ }
+    ensures { λ r. ⌜ Came (changedBy (now (words .entry)) changes (now (entries .entry)))
+        (now (said .entry)) (now (entries .exit)) (now (said .exit)) r ⌝ }
+{
+    let several = 1 < changes;
+    let mut so = Done {
+        made: false,
+        says: 0,
+    };
+    let mut n: usize = 0;
+    while n < changes {
+        so = step(words, n, several, entries, said, so);
+        n += 1;
+    }
+    so
+}
+
+// Makes the changes that the words ask for, one after the other, and tells of those that are not made.
+pub fn change_all(
+    words: &[u8],
+    changes: usize,
+    entries: &mut [u32; ENTRIES],
+    said: &mut [u8; SAID_BYTES],
+) -> Done
+    requires { ⌜ changes ≤ mostChanges ⌝ }
+    ensures { λ r. ⌜ Came (changedBy (now (words .entry)) changes (now (entries .entry)))
+        (now (said .entry)) (now (entries .exit)) (now (said .exit)) r ⌝ }
+{
+    change_each(words, changes, entries, said)
+}
