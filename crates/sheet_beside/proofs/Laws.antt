@@ -1,4 +1,4 @@
--- How many numbers stand beside an approach's lines, and what a fill of a list of the right size answers and leaves.
+-- How many numbers stand beside an approach's lines.
 use mathlib.Core.Path.{_≡_, refl}
 use mathlib.Core.Bool.{Bool, true, false, cond, _||_}
 use mathlib.Core.List.{List, [], _∷_, _++_}
@@ -6,13 +6,11 @@ use Prim.Native.Nat.{ℕ}
 use lib.Dec.{eqb}
 use lib.ListN.{length, getD, length-append}
 use native.Mathlib.Omega.{arith}
-use borrow.Author.Tests.{eq-eqb}
 use Rattle.layout.specs.Entries.{EB, WB, NB, SB, freeNo, approachPlace}
 use Rattle.layout.specs.Sheet.{sheetCount, besideNumbers, pageCount}
 use Rattle.units.specs.Rounding.{up}
 use Rattle.units.specs.Unit.{whole}
 use Rattle.kinds.specs.declared.Group.the-variants.{Left}
-use Rattle.answers.specs.Answers.{left-by}
 use Rattle.answers.specs.declared.Answer.the-variants.{Accepted}
 use Rattle.entries.specs.Layout.{cycle}
 use Rattle.entries.specs.Judging.{judged}
@@ -21,9 +19,7 @@ use Rattle.procedure.specs.declared.Approach.{Approach}
 use Rattle.procedure.specs.Approach.{n, readApproach}
 use Rattle.procedure.specs.Lines.{volume, leftShare, equivalent, leftA}
 use Rattle.procedure.specs.Sheet.{sheet}
-use Rattle.sheet_cells.specs.Cells.{sheetAnswer}
 use Rattle.sheet_cells.proofs.Cells.{sheet-length}
-use Rattle.sheet.specs.Fill.{fillAnswer, filled}
 use Rattle.sheet_beside.specs.Beside.{ownLane, lineIn, throughIn, leftIn, added, besideAt, besideOf, beside, filledBeside}
 
 -- lists of one length, whichever is chosen
@@ -79,13 +75,3 @@ all-length e sized =
 pub filled-length : (e d : List ℕ) → judged e ≡ Accepted → length (filledBeside e d) ≡ pageCount
 unfolding filledBeside
 filled-length e d good = rw good (all-length e (sheet-length e (accepted-count e good)))
-
--- filling a sheet of the right size answers as the entries are judged
-module _ (e d : List ℕ) (sized : length d ≡ sheetCount) where
-  pub fill-answers : fillAnswer e d ≡ judged e
-  unfolding fillAnswer sheetAnswer
-  fill-answers = rw (eq-eqb (length d) sheetCount sized)
-
-  pub fill-leaves : filled e d ≡ left-by (judged e) (sheet e) d
-  unfolding filled
-  fill-leaves = rw fill-answers

@@ -3,7 +3,7 @@ use Rattle.layout.specs.Sheet.{sheetCount}
 use Rattle.procedure.specs.Sheet.{sheet}
 use Rattle.answers.proofs.Laws.{kept, renewed}
 use Rattle.sheet_beside.specs.Beside.{beside, filledBeside}
-use Rattle.sheet_beside.proofs.Laws.{fill-answers, fill-leaves}
+use Rattle.sheet.proofs.Sized.{fill-answers, fill-leaves}
 use denote.Ref.{now}
 use lib.ListN.{replicate}
 use mathlib.Core.List.{_++_}
