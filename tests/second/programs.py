@@ -24,6 +24,8 @@ BIN = os.path.abspath("target/bin")
 SAMPLES = "samples/table"
 NAMES = list(table.TITLES)
 MARK = b"\xef\xbb\xbf"  # a byte-order mark
+WORD_MOST = 4096  # the bytes of an argument
+CHANGES_MOST = 20
 
 
 class Bench:
@@ -148,6 +150,42 @@ def named_value(entry, value):
     return [group, kind, table.value_text(kind, value)]
 
 
+def word_taken(word):
+    """An argument as a program takes it: one that is too long, as one of no bytes."""
+    return word if len(word) <= WORD_MOST else b""
+
+
+def one_change(entries, words):
+    """The entries after a change that three words ask for, and what is said of it if it is not made."""
+    name, kind, value = (word_taken(word) for word in words)
+    if name.decode("latin-1") not in table.GROUPS:
+        return entries, name + b": no movement, no approach and not the junction has this name\n"
+    entry = table.NAMED.get((name.decode("latin-1"), kind.decode("latin-1")))
+    if entry is None:
+        return entries, kind + b": no entry has this name there\n"
+    changed = list(entries)
+    try:
+        changed[entry] = table.value_of(kind.decode(), value)
+    except table.Wrong as wrong:
+        return entries, value + b": " + wrong.args[1].encode() + b"\n"
+    refusal = icu2003.judge(changed)
+    return (changed, b"") if refusal == (0, 0) else (entries, table.refusal_text(*refusal).encode() + b"\n")
+
+
+def several_changes(entries, words):
+    """What icuamend prints and says of the changes in these words, the entries after them, and whether one was made."""
+    changes, now, made, said = [words[i:i + 3] for i in range(0, len(words), 3)], entries, False, b""
+    for number, change in enumerate(changes, 1):
+        now, why = one_change(now, change)
+        made = made or not why
+        if why:
+            said += (b"change %d: " % number if len(changes) > 1 else b"") + why
+    if not made:
+        return (b"", said), entries, False
+    before = icu2003.fill(entries) if icu2003.judge(entries) == (0, 0) else None
+    return (table.change_text(before, icu2003.fill(now)).encode(), said), now, True
+
+
 def damaged(rng, data):
     """A text with some bytes lost, added or changed, or cut short."""
     data = bytearray(data)
@@ -173,15 +211,23 @@ def damaged(rng, data):
 def usage(b):
     """Called with nothing or with a wrong word, each program says how it is used."""
     for program, calls in (("icusheet", ((), ("a", "1", "c"))),
-                           ("icuamend", ((), ("a",), ("a", "1", "EBT", "volume"), ("a", "1", "EBT", "volume", "1", "n", "o"))),
+                           ("icuamend", ((), ("a",), ("a", "1", "EBT", "volume"), ("a", "1", "EBT", "volume", "1", "n", "o"),
+                                         ("a", "1") + ("EBT", "volume", "1") * 21, ("a", "1") + ("EBT", "volume", "1") * 21 + ("n",),
+                                         ("a", "1") + ("EBT", "volume", "1") * 400, ("--help", "a"), ("--version", "a"), ("-h",))),
                            ("icustudy", ((), ("make",), ("make", "a"), ("show", "a"), ("mend", "a", "b"), ("show", "a", "1", "2")))):
         for words in calls:
             out, said = b.run(program, *words)
             b.same("output of %s" % program, out, b"")
             b.same("usage of %s" % program, said.startswith(b"usage: %s " % program.encode()), True)
     study = b.put("s.icus", study_of([junctions.K1]))
-    for words, said in ((("EBT", "volumes", "1"), b"volumes: no entry has this name there\nusage: "),
-                        (("EB", "volume", "1"), b"volume: no entry has this name there\nusage: "),
+    for words, said in ((("EBQ", "volume", "1"), b"EBQ: no movement, no approach and not the junction has this name\n"),
+                        (("ebt", "volumes", "x"), b"ebt: no movement, no approach and not the junction has this name\n"),
+                        (("", "volume", "1"), b": no movement, no approach and not the junction has this name\n"),
+                        (("volume", "volume", "1"), b"volume: no movement, no approach and not the junction has this name\n"),
+                        (("EBT", "volumes", "1"), b"volumes: no entry has this name there\n"),
+                        (("EBT", "EBT", "1"), b"EBT: no entry has this name there\n"),
+                        (("junction", "volume", "1"), b"volume: no entry has this name there\n"),
+                        (("EB", "volume", "1"), b"volume: no entry has this name there\n"),
                         (("EBT", "volume", "-1"), b"-1: a whole number without a unit is expected here\n"),
                         (("EBT", "volume", ""), b": a whole number without a unit is expected here\n"),
                         (("EBT", "volume", "0" * 5000), b": a whole number without a unit is expected here\n"),
@@ -190,12 +236,17 @@ def usage(b):
                         (("EBT", "lost-time", "4"), b"4: a time is written with its unit, as 4s, 4.5s or 4000ms\n"),
                         (("EB", "pedestrian-time", "16000"), b"16000: a time is written with its unit, as 4s, 4.5s or 4000ms\n"),
                         (("EBT", "lost-time", "20.001s"), b"R3: EBT lost-time is outside 0s to 20s\n"),
-                        (("EBT", "", "1"), b": no entry has this name there\nusage: "),
+                        (("EBT", "", "1"), b": no entry has this name there\n"),
                         (("EBT", "lost-time", "4294968s"), b"4294968s: this number is too large\n"),
                         (("EBT", "volume", "4294967296"), b"4294967296: this number is too large\n")):
-        out, got = b.run("icuamend", study, "1", *words)
-        b.same("output", out, b"")
-        b.same("said", got.startswith(said), True)
+        b.same("said", b.run("icuamend", study, "1", *words), (b"", said))
+        b.same("words", several_changes(junctions.K1, [word.encode() for word in words])[0], (b"", said))
+    out, said = b.run("icuamend", "--help")
+    b.same("help", (out, said), (b.run("icuamend")[1], b""))
+    b.same("version", b.run("icuamend", "--version"), (b"icu2003 1.0\n", b""))
+    for word in ("0", "2", "x", "", "4294967296"):
+        b.same("no site", b.run("icuamend", study, word, "EBQ", "volume", "1"), (b"", word.encode() + b": the study has 1 site\n"))
+    b.same("no study", b.run("icuamend", "nothing", "1", "EBQ", "volume", "1"), (b"", b"nothing: cannot be read\n"))
     for words in ((study, "0"), (study, "2"), (study, "x"), (study, ""), (study, "4294967296"), (study, "9" * 20)):
         b.same("site", b.run("icusheet", *words), (b"", words[1].encode() + b": the study has no such site\n"))
     for missing in ("nothing", ".", ""):
@@ -222,6 +273,16 @@ def samples(b):
         b.same("text " + name, b.run("icustudy", "show", study, str(number)), (b.get(name + ".full"), b""))
         words = b.get(name + ".amend").decode().split()
         b.same("change " + name, b.run("icuamend", study, str(number), *words), (b.get(name + ".changes"), b""))
+    # the sample study's last site is refused: a cycle of 29 s
+    with open(os.path.join(os.path.dirname(SAMPLES), "study.icus"), "rb") as f:
+        data = f.read()
+    sites = [list(icu2003.study_site(data, number)) for number in range(11)]
+    b.same("a refused site", icu2003.judge(sites[10]), (3, 80))
+    mended = sites[10][:80] + [120]
+    b.put("eleven.icus", data)
+    b.same("mended", b.run("icuamend", b.path("eleven.icus"), "11", "junction", "cycle", "120", b.path("eleven.icus")),
+           (table.change_text(None, icu2003.fill(mended)).encode(), b""))
+    b.same("mended study", b.get("eleven.icus"), study_of(sites[:10] + [mended]))
 
 
 def named(b):
@@ -248,6 +309,7 @@ def runs(b):
     """Runs of changes, refused ones among them, each on the study that the last one left."""
     for _, entries in junctions.all_junctions():
         if icu2003.judge(entries) != (0, 0):
+            mending(b, entries)
             continue
         study, sheet = b.put("run.icus", study_of([entries])), icu2003.fill(entries)
         for entry, value in [correction(b.rng) for _ in range(16)]:
@@ -257,6 +319,18 @@ def runs(b):
             wanted = (b"", (table.refusal_text(*answer) + "\n").encode()) if answer[0] else (table.change_text(before, sheet).encode(), b"")
             b.same("run", b.run("icuamend", study, "1", *named_value(entry, value), study), wanted)
             b.same("run's study", b.get("run.icus"), study_of([sheet[:81]]))
+
+
+def mending(b, entries):
+    """Changes of entries that are refused: each is judged as all entries would stand, until they can be filled."""
+    study = b.put("mend.icus", study_of([entries]))
+    usual = [(entry, table.USUAL[entry]) for entry in range(81) if not icu2003.limits(entry)[0] <= entries[entry] <= icu2003.limits(entry)[1]]
+    for entry, value in [correction(b.rng) for _ in range(4)] + usual + [(15 * a + 5, 2) for a in range(4)] + [(60 + 5 * a, 0) for a in range(4)]:
+        words = named_value(entry, value)
+        wanted, after, made = several_changes(entries, [word.encode() for word in words])
+        b.same("mending", b.run("icuamend", study, "1", *words, study), wanted)
+        entries = after
+        b.same("mended", b.get("mend.icus"), study_of([entries]))
 
 
 def typed(b):
@@ -346,14 +420,15 @@ def amendments(b):
         if os.path.exists(new):
             os.remove(new)
         words = [study, str(site + 1)] + named_value(entry, value) + [new]
-        answer = icu2003.judge(sites[site])
+        before = icu2003.fill(sites[site]) if icu2003.judge(sites[site]) == (0, 0) else None
+        after = sites[site][:entry] + [value] + sites[site][entry + 1:]
+        answer = icu2003.judge(after)
         if answer == (0, 0):
-            before = icu2003.fill(sites[site])
-            after = list(before)
-            answer = icu2003.amend(after, entry, value)
-        if answer == (0, 0):
+            sites[site] = after
+            after = icu2003.fill(after)
             wanted = table.change_text(before, after).encode(), b""
-            sites[site] = after[:81]
+            amended = list(before or after)
+            b.same("amended", (icu2003.amend(amended, entry, value), amended), ((0, 0), after))
         else:
             wanted = b"", (table.refusal_text(*answer) + "\n").encode()
         b.same("change", b.run("icuamend", *words), wanted)
@@ -361,6 +436,46 @@ def amendments(b):
         if answer == (0, 0):
             b.same("new study's bytes", b.get("new.icus"), study_of(sites))
         b.same("old study", b.run("icuamend", *words[:-1]), wanted)
+    together(b)
+
+
+HOSTILE = (b"EBQ", b"", b"EBT", b"lanes", b"volume", b"-1", b"4s", b"0x10", b"\xff\xfe", b"EBT\n", b"%s%n", b"9" * 30, b"n" * 4096, b"n" * 4097,
+           b"--help", b"change 1: ")
+
+
+def three_words(rng):
+    """A change as it is asked for: mostly an entry and a value of it, sometimes any words."""
+    words = [word.encode() for word in named_value(*correction(rng))]
+    for place in range(3):
+        if rng.random() < 0.1:
+            words[place] = rng.choice(HOSTILE)
+    return words
+
+
+def together(b):
+    """Several changes in one call, refused ones and words that are none among them."""
+    for count in list(range(1, CHANGES_MOST + 1)) * 4 + [CHANGES_MOST] * 20:
+        entries = likely(b.rng) if b.rng.random() < 0.8 else b.rng.choice(junctions.all_junctions())[1]
+        words = [word for _ in range(count) for word in three_words(b.rng)]
+        study, new = b.put("many.icus", study_of([entries, junctions.K1])), b.path("new.icus")
+        if os.path.exists(new):
+            os.remove(new)
+        wanted, after, made = several_changes(entries, words)
+        b.same("several", b.run("icuamend", study, "1", *words), wanted)
+        b.same("several kept", b.run("icuamend", study, "1", *words, new), wanted)
+        b.same("several's study", os.path.exists(new), made)
+        if made:
+            b.same("several's bytes", b.get("new.icus"), study_of([after, junctions.K1]))
+        b.same("as it was", b.get("many.icus"), study_of([entries, junctions.K1]))
+        if made and wanted[1]:
+            stays = study.encode() + b": stays as it was, since not all that was asked for was done: name a new file\n"
+            b.same("not over a study", b.run("icuamend", study, "1", *words, study), (b"", wanted[1] + stays))
+            b.same("stays", b.get("many.icus"), study_of([entries, junctions.K1]))
+    # the longest that can be said
+    study = b.put("long.icus", study_of([junctions.K1]))
+    words = [b"EBT", b"n" * WORD_MOST, b"1"] * CHANGES_MOST
+    wanted = several_changes(junctions.K1, words)[0]
+    b.same("longest", b.run("icuamend", study, "1", *words), wanted)
 
 
 # What is said where a file or standard output is not written.

@@ -303,13 +303,14 @@ def sheet_text(sheet):
 
 
 def change_text(before, after):
-    """A row for each cell that changed, in the cells' order; the ICU and the letter in any case."""
+    """A row for each cell that changed, in the cells' order; the ICU and the letter in any case. Without a sheet before, every cell."""
     found = {i: (row, name) for row, columns, where in cell_rows() for name, i in zip(columns, where)}
     out = [printed(("no", "changed cell", "book", ":"), ["where", "before", "after"])]
     for i in range(209):
-        if before[i] != after[i] or i >= 207:
+        if before is None or before[i] != after[i] or i >= 207:
             row, name = found[i]
-            out.append(printed(row, [name, shown(row[3], before[i]), shown(row[3], after[i])]))
+            held = "none" if before is None else shown(row[3], before[i])
+            out.append(printed(row, [name, held, shown(row[3], after[i])]))
     return "".join(out)
 
 
