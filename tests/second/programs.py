@@ -87,20 +87,20 @@ def study_of(sites):
     return bytes(out)
 
 
-def sheet_of(entries):
-    """What icusheet prints of entries, to standard output and to standard error."""
-    answer = icu2003.judge(entries)
-    if answer != (0, 0):
-        return b"", (table.refusal_text(*answer) + "\n").encode()
-    return table.sheet_text(icu2003.fill(entries)).encode(), b""
+def all_pages(path, sites):
+    """What icusheet prints and says of all sites of a study: pages that a form feed parts."""
+    pages = [table.site_page(path.encode(), sites, number) for number in range(1, len(sites) + 1)]
+    return b"\f".join(page for page, _ in pages), b"".join(said for _, said in pages)
 
 
 def typed_sheet(path, data):
     """What icusheet prints of a text."""
+    if icu2003.study_check(data) == (0, 0):
+        return b"", path.encode() + b": this is a study file: add a site, counted from 1, or all\n"
     said = table.said_of(data)
     if said:
         return b"", path.encode() + b": " + said.encode()
-    return table.sheet_text(icu2003.fill(table.read_text(data))).encode(), b""
+    return table.text_page(path.encode(), data), b""
 
 
 def pick(rng, entry):
@@ -247,8 +247,19 @@ def usage(b):
     for word in ("0", "2", "x", "", "4294967296"):
         b.same("no site", b.run("icuamend", study, word, "EBQ", "volume", "1"), (b"", word.encode() + b": the study has 1 site\n"))
     b.same("no study", b.run("icuamend", "nothing", "1", "EBQ", "volume", "1"), (b"", b"nothing: cannot be read\n"))
-    for words in ((study, "0"), (study, "2"), (study, "x"), (study, ""), (study, "4294967296"), (study, "9" * 20)):
-        b.same("site", b.run("icusheet", *words), (b"", words[1].encode() + b": the study has no such site\n"))
+    for word in ("0", "2", "x", "", "4294967296", "9" * 20, "ALL", "all "):
+        for program in (("icusheet",), ("icustudy", "show")):
+            b.same("site", b.run(*program, study, word), (b"", word.encode() + b": the study has 1 site\n"))
+    for sites in (0, 3):
+        path = b.put("some.icus", study_of([junctions.K1] * sites))
+        b.same("no ninth", b.run("icusheet", path, "9"), (b"", b"9: the study has %d sites\n" % sites))
+    b.same("none of none", b.run("icusheet", b.put("none.icus", study_of([])), "all"), (b"", b"all: the study has 0 sites\n"))
+    text = os.path.join(SAMPLES, "k1.txt")
+    for word in ("1", "all"):
+        b.same("no study file", b.run("icusheet", text, word), (b"", text.encode() + b": R6: this is no study file\n"))
+    for program, more in (("icusheet", ()), ("icustudy", ())):
+        b.same("help", b.run(program, "--help"), (b.run(program)[1], b""))
+        b.same("version", b.run(program, "--version"), (b"icu2003 1.0\n", b""))
     for missing in ("nothing", ".", ""):
         b.same("missing", b.run("icusheet", missing), (b"", missing.encode() + b": cannot be read\n"))
     b.same("unwritable", b.run("icustudy", "make", ".", os.path.join(SAMPLES, "k1.txt")), (b"", b".: cannot be written\n"))
@@ -269,15 +280,17 @@ def samples(b):
     b.same("study", b.get("ten.icus"), study_of(sites))
     for number, name in enumerate(NAMES, 1):
         b.same("typed " + name, b.run("icusheet", texts[number - 1]), (b.get(name + ".sheet"), b""))
-        b.same("site " + name, b.run("icusheet", study, str(number)), (b.get(name + ".sheet"), b""))
+        b.same("site " + name, b.run("icusheet", study, str(number)), table.site_page(study.encode(), sites, number))
         b.same("text " + name, b.run("icustudy", "show", study, str(number)), (b.get(name + ".full"), b""))
         words = b.get(name + ".amend").decode().split()
         b.same("change " + name, b.run("icuamend", study, str(number), *words), (b.get(name + ".changes"), b""))
+    b.same("all ten", b.run("icusheet", study, "all"), all_pages(study, sites))
     # the sample study's last site is refused: a cycle of 29 s
     with open(os.path.join(os.path.dirname(SAMPLES), "study.icus"), "rb") as f:
         data = f.read()
     sites = [list(icu2003.study_site(data, number)) for number in range(11)]
     b.same("a refused site", icu2003.judge(sites[10]), (3, 80))
+    b.same("all eleven", b.run("icusheet", b.put("eleven.icus", data), "all"), all_pages(b.path("eleven.icus"), sites))
     mended = sites[10][:80] + [120]
     b.put("eleven.icus", data)
     b.same("mended", b.run("icuamend", b.path("eleven.icus"), "11", "junction", "cycle", "120", b.path("eleven.icus")),
@@ -290,7 +303,8 @@ def named(b):
     sites = [entries for _, entries in junctions.all_junctions()]
     study = b.put("named.icus", study_of(sites))
     for number, entries in enumerate(sites, 1):
-        b.same("named junction", b.run("icusheet", study, str(number)), sheet_of(entries))
+        b.same("named junction", b.run("icusheet", study, str(number)), table.site_page(study.encode(), sites, number))
+    b.same("all of them", b.run("icusheet", study, "all"), all_pages(study, sites))
 
 
 def correction(rng):
@@ -333,12 +347,25 @@ def mending(b, entries):
         b.same("mended", b.get("mend.icus"), study_of([entries]))
 
 
+def any_title(rng):
+    """A title at a text's front, mostly well written, past blanks and comments."""
+    title = bytes(rng.choice(b"Elm and 3rd, #'\xc3\x9f\xff") for _ in range(rng.choice((0, 1, 2, 20, 59, 60, 61))))
+    front = b"".join(rng.choice((b"", b" ", b"\n", b"# title \"x\"\n", b"\t#\r\n")) for _ in range(3))
+    return front + b"title" + rng.choice((b" ", b" ", b" \n\t", b"")) + b'"' + title + rng.choice((b'"', b'"', b'"', b"", b'\x07"', b'\x7f"', b"\n"))
+
+
 def typed(b):
-    """Texts in any order and layout."""
+    """Texts in any order and layout, with and without a title; and names that would steer a terminal."""
     for _ in range(150):
-        data = loosely(b.rng, likely(b.rng))
+        data = (any_title(b.rng) if b.rng.random() < 0.5 else b"") + loosely(b.rng, likely(b.rng))
         path = b.put("typed.txt", data)
         b.same("typed", b.run("icusheet", path), typed_sheet(path, data))
+    study = study_of([junctions.K1, junctions.changed(junctions.K1, {80: 29})])
+    for name in ("a\x1b[31mb.txt", "x\x7f", "new\nline", "Stra\xdfe", "a b", "n" * 200):
+        path = b.put(name, b'title "Elm"\n' + table.write_text(junctions.K1).encode())
+        b.same("name", b.run("icusheet", path), typed_sheet(path, b.get(name)))
+        b.put(name, study)
+        b.same("name of a study", b.run("icusheet", path, "all"), all_pages(path, [junctions.K1, junctions.changed(junctions.K1, {80: 29})]))
 
 
 def unread(b, data):
@@ -365,7 +392,10 @@ def damaged_texts(b):
                  b"EBL\0 lanes 1", b"EBL lanes 1,", b"junctions cycle 60", b"pedestrian-times 1",
                  b"EBL lost-time 4", b"EBL lost-time 4000", b"EBL lost-time 4.5s", b"EBL lost-time 4.5ms", b"EBL lost-time 4.1234s", b"EBL lost-time 20.001s",
                  b"EBL lost-time 99999999999.5s", b"EB pedestrian-time 16", b"EBL volume 4s", b"junction cycle 120s", b"EBL lanes 99999999999",
-                 b"Stra\xc3\x9fe", b"x" * 24, b"x" * 25, b"\x1b[31mEBL", b"\"EBL\"", b"EBL lanes 1\n  lane 2", b"EBL\tlanes\xc2\xa01"):
+                 b"Stra\xc3\x9fe", b"x" * 24, b"x" * 25, b"\x1b[31mEBL", b"\"EBL\"", b"EBL lanes 1\n  lane 2", b"EBL\tlanes\xc2\xa01",
+                 b"title", b"title ", b'title "', b'title ""', b'title "x"', b'title "x"EBL lanes 1', b'title"x"', b"titles", b'title "x" title "y"',
+                 b'EBL lanes 1 title "x"', b'# c\n \ttitle\r\n"x"# c', b'title "' + b"x" * 60 + b'"', b'title "' + b"x" * 61 + b'"', b"title 'x'",
+                 b'title "a\nb"', b'title "a\x7fb"', b'title "\xff\xfe"', b'Title "x"', b'title "x\nEBL volume 5'):
         unread(b, data)
         unread(b, MARK + data)
         unread(b, MARK + MARK + data)
@@ -388,21 +418,26 @@ def studies(b):
             out, said = b.run("icustudy", "show", study, str(number))
             b.same("shown", (out, said), (table.write_text(entries).encode(), b""))
             b.same("read back", table.parse(out)[0], entries)
-            b.same("sheet", b.run("icusheet", study, str(number)), sheet_of(entries))
+            b.same("sheet", b.run("icusheet", study, str(number)), table.site_page(study.encode(), sites, number))
+        b.same("sheets", b.run("icusheet", study, "all"), all_pages(study, sites))
+        b.same("no text", b.run("icusheet", study), typed_sheet(study, study_of(sites)))
     whole = study_of([likely(b.rng) for _ in range(3)])
     for _ in range(150):
         data = whole if b.rng.random() < 0.1 else damaged(b.rng, whole)
         path, answer = b.put("bad.icus", data), icu2003.study_check(data)
         if answer == (0, 0):
-            wanted = sheet_of(icu2003.block_entries(icu2003.study_site(data, 0))) if icu2003.number_at(data, 4) else None
+            sites = [list(icu2003.block_entries(icu2003.study_site(data, j))) for j in range(icu2003.number_at(data, 4))]
+            if sites:
+                b.same("good study", b.run("icusheet", path, "all"), all_pages(path, sites))
         else:
-            wanted = b"", (table.refusal_text(*answer) + "\n").encode()
-        if wanted:
-            b.same("bad study", b.run("icusheet", path, "1"), wanted)
-            b.same("bad study, shown", b.run("icustudy", "show", path, "1")[1], wanted[1] if answer != (0, 0) else b"")
+            wanted = b"", path.encode() + b": " + table.refusal_text(*answer).encode() + b"\n"
+            for word in ("1", "all"):
+                b.same("bad study", b.run("icusheet", path, word), wanted)
+            b.same("bad study, shown", b.run("icustudy", "show", path, "1"), wanted)
     full = [likely(b.rng) for _ in range(180)]
     study = b.put("full.icus", study_of(full))
-    b.same("last of 180", b.run("icusheet", study, "180"), sheet_of(full[179]))
+    b.same("last of 180", b.run("icusheet", study, "180"), table.site_page(study.encode(), full, 180))
+    b.same("all of 180", b.run("icusheet", study, "all"), all_pages(study, full))
     k1 = os.path.join(SAMPLES, "k1.txt")
     b.same("180 texts", b.run("icustudy", "make", b.path("most.icus"), *[k1] * 180), (b"", b""))
     b.same("180 sites", b.get("most.icus"), study_of([junctions.K1] * 180))

@@ -94,8 +94,8 @@ def write_text(entries):
 
 
 def brief_text(title, entries):
-    """As a person types it: a comment, and what is not usual."""
-    out = ["# " + title + "\n"]
+    """As a person types it: a title, and what is not usual."""
+    out = ['title "%s"\n' % title]
     for group, name in enumerate(GROUPS):
         given = [kind + " " + value_text(kind, entries[5 * group + j]) for j, kind in enumerate(kinds_of(group))
                  if entries[5 * group + j] != USUAL[5 * group + j] or group == 16]
@@ -114,9 +114,20 @@ def quoted(word):
     return '"%s%s"' % ("".join(chr(b) if 33 <= b <= 126 else "?" for b in word[:24]), ".." if len(word) > 24 else "")
 
 
-def words(data):
-    """(place, word) of each word of the text."""
-    place, n = 0, len(data)
+def titling(data):
+    """A text's title and the place past it. Before it stand blanks and comments at most; Wrong where `title` begins no title."""
+    front = re.match(rb"(?:[ \t\r\n]|#[^\n]*(?:\n|$))*", data).end()
+    if data[front:front + 5] != b"title":
+        return b"", 0
+    found = re.compile(rb'title[ \t\r\n]+"([^"\x00-\x1f\x7f]{1,60})"').match(data, front)
+    if not found:
+        raise Wrong(front, 'a title is written in quotes, as title "Elm and 3rd", with at most 60 bytes')
+    return found.group(1), found.end()
+
+
+def words(data, place):
+    """(place, word) of each word of the text from a place on."""
+    n = len(data)
     while place < n:
         byte = data[place]
         if byte in b" \t\r\n":
@@ -136,7 +147,7 @@ def parse(data):
     """(entries, places of their values), or Wrong."""
     entries, places = list(USUAL), {}
     group = wanted = None
-    for place, word in words(data):
+    for place, word in words(data, titling(data)[1]):
         name = word.decode("latin-1")
         if wanted is not None:
             try:
@@ -169,6 +180,8 @@ def refusal_text(number, place):
         said = "%s: a shared lane needs a through lane and no left lane beside it" % APPROACHES[place]
     elif number == 5:
         said = "%s: vehicles, and no lane that takes them" % GROUPS[place]
+    elif place == 0:
+        said = "this is no study file"
     else:
         said = "the study file is badly laid out at byte %d" % place
     return "R%d: %s" % (number, said)
@@ -314,6 +327,27 @@ def change_text(before, after):
     return "".join(out)
 
 
+# ---------------------------------------------------------------- whose sheet it is
+
+def shown_name(name):
+    """A file's name as bytes, with a question mark for what would steer a terminal."""
+    return bytes(63 if byte < 32 or byte == 127 else byte for byte in name)
+
+
+def text_page(name, data):
+    """The page of a text that can be read: its name and its title, and the worksheet."""
+    title = titling(unmarked(data))[0]
+    return shown_name(name) + (b": " + title if title else b"") + b"\n\n" + sheet_text(icu2003.fill(read_text(data))).encode()
+
+
+def site_page(name, sites, number):
+    """The page of a site, counted from 1, and what is said of it: the worksheet, or why its entries are refused."""
+    whose, answer = shown_name(name) + b", site %d" % number, icu2003.judge(sites[number - 1])
+    said = b"" if answer == (0, 0) else refusal_text(*answer).encode() + b"\n"
+    body = said or sheet_text(icu2003.fill(sites[number - 1])).encode()
+    return whose + b" of %d\n\n" % len(sites) + body, whose + b": " + said if said else b""
+
+
 # ---------------------------------------------------------------- the samples
 
 AMENDMENTS = {
@@ -365,7 +399,7 @@ def main(outdir):
         answer = icu2003.amend(after, NAMED[group, kind], value_of(kind, value.encode()))
         put(outdir, name + ".txt", typed)
         put(outdir, name + ".full", write_text(entries))
-        put(outdir, name + ".sheet", sheet_text(before))
+        put(outdir, name + ".sheet", text_page(("samples/table/" + name + ".txt").encode(), typed.encode()).decode())
         put(outdir, name + ".amend", AMENDMENTS[name] + "\n")
         put(outdir, name + ".changes", change_text(before, after) if answer == (0, 0) else refusal_text(*answer) + "\n")
 
