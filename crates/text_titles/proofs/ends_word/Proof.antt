@@ -1,6 +1,6 @@
 use borrow.Author.Needs.{needs}
-use Rattle.text_scan.proofs.ends_word.Statement.{statement}
-use Rattle.text_scan.proofs.ends_word.Tie as tie
+use Rattle.text_titles.proofs.ends_word.Statement.{statement}
+use Rattle.text_titles.proofs.ends_word.Tie as tie
 
 returns : tie.Need-returns
 returns c = rw (← c .before .is-blank .ensures, c .if1 .taken)

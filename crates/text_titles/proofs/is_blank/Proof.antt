@@ -1,6 +1,6 @@
 use borrow.Author.Tests.{ne-eqb}
-use Rattle.text_scan.proofs.is_blank.Statement.{statement}
-use Rattle.text_scan.proofs.is_blank.Tie as tie
+use Rattle.text_titles.proofs.is_blank.Statement.{statement}
+use Rattle.text_titles.proofs.is_blank.Tie as tie
 
 returns : tie.Need-returns
 returns c = rw (c .if1 .taken)
