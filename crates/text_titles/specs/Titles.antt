@@ -19,9 +19,13 @@ quote = 34
 abbrev pub titleMost : ℕ
 titleMost = 60
 
--- a title has no quote within, and no byte that steers a terminal
+-- the bytes that steer a terminal: those below the space, and 127
+abbrev pub steers : ℕ → Bool
+steers byte = ltb byte 32 || eqb byte 127
+
+-- a title has no such byte, and no quote within
 abbrev pub endsTitle : ℕ → Bool
-endsTitle byte = ltb byte 32 || eqb byte 127 || eqb byte quote
+endsTitle byte = steers byte || eqb byte quote
 
 -- the byte that ends a run of blanks, and of a title's bytes
 abbrev pub endsRun : Run → ℕ → Bool

@@ -5,7 +5,7 @@ ghost use Prim.Native.Nat.{_+_, _≤_};
 ghost use lib.ListN.{length, getD, take, drop};
 ghost use Rattle.text.specs.Text.{firstIn};
 ghost use Rattle.text_titles.specs.Blanks.{isBlank, endsWord, isLead, goesOn, leadSize};
-ghost use Rattle.text_titles.specs.Titles.{endsRun, beginsWith, isQuoted, titledAt, titlingOf, titleOf};
+ghost use Rattle.text_titles.specs.Titles.{steers, endsRun, beginsWith, isQuoted, titledAt, titlingOf, titleOf};
 
 // The most bytes of a title.
 pub const TITLE_MOST: usize = 60;
@@ -135,14 +135,21 @@ fn begins(text: &[u8], bytes: &[u8]) -> bool
     true
 }
 
-// Whether a byte may not stand in a title: a quote, and what steers a terminal.
-fn ends_title(byte: u8) -> bool
-    ensures { λ r. ⌜ r ≡ endsRun Run.Title byte ⌝ }
+// Whether a byte steers a terminal.
+pub fn is_steering(byte: u8) -> bool
+    ensures { λ r. ⌜ r ≡ steers byte ⌝ }
 {
     if byte < b' ' {
         return true;
     }
-    if byte == b'\x7F' {
+    byte == b'\x7F'
+}
+
+// Whether a byte may not stand in a title: a quote, and what steers a terminal.
+fn ends_title(byte: u8) -> bool
+    ensures { λ r. ⌜ r ≡ endsRun Run.Title byte ⌝ }
+{
+    if is_steering(byte) {
         return true;
     }
     byte == b'"'
