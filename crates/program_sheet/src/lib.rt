@@ -1,12 +1,29 @@
-// What `icusheet` prints and says: one call, between reading and writing.
+// What `icusheet` prints and says: a call for what is printed once, and one for each page of a study; between reading and writing.
 ghost use mathlib.Core.Path.{_≡_};
+ghost use mathlib.Core.List.{_++_};
+ghost use Prim.Native.Nat.{_+_, _≤_, _<_};
 ghost use lib.ListN.{length};
+ghost use Rattle.answers.specs.Answers.{left-by};
+ghost use Rattle.entries.specs.Judging.{judged};
+ghost use Rattle.procedure.specs.Sheet.{sheet};
+ghost use Rattle.page.specs.Worksheet.{sheetBytes, sheetText};
 ghost use Rattle.text.specs.Text.{Placed};
+ghost use Rattle.text_titles.specs.Titles.{titleOf};
+ghost use Rattle.text_scan.specs.Scanning.{unmarked};
+ghost use Rattle.text_reader.specs.Reader.{reading};
+ghost use Rattle.text_numbers.specs.Numbers.{tooLarge};
 ghost use Rattle.program_outcome.specs.Outcome.{Left};
-ghost use Rattle.program_sheet.specs.Run.{sheetOf, sheetOfText, sheetOfSite, sheetOfFile, sheetUse, sheetTakes, sheetRun};
+ghost use Rattle.program_heading.specs.Headings.{textHeading};
+ghost use Rattle.program_heading.specs.Working.{headingMost};
+ghost use Rattle.program_sheet.specs.Run.{refusedPage, pageOf, readAs, sheetOfText, sitePage, sheetOfSite, beforeAll, sheetOfFile};
+ghost use Rattle.program_sheet.specs.Working.{onlyPrinted, useMost};
+ghost use Rattle.program_sheet.specs.Run.{sheetUse, sheetTakes, sheetRun, workRun, pagesOf, pageIn, pageAt};
 use answers::Answer;
 use layout::CELLS;
 use layout::ENTRIES;
+use page::SHEET_BYTES;
+use program_heading::HEADING_BYTES;
+use program_heading::Spot;
 use program_outcome::AREA_BYTES;
 use program_outcome::Call;
 use program_outcome::Input;
@@ -14,10 +31,12 @@ use program_outcome::Lengths;
 use program_outcome::Remark;
 use program_outcome::SAID_BYTES;
 use program_site::Sought;
+use program_wish::Wish;
 use text_reader::Reading;
+use text_refusals::SAYING_BYTES;
 
-// Room for what is printed: a page.
-pub const PRINTED_BYTES: usize = page::SHEET_BYTES;
+// Room for what is printed: a heading and a page.
+pub const PRINTED_BYTES: usize = HEADING_BYTES + SHEET_BYTES;
 
 // The number of arguments, with a text; with a study and a site.
 const OF_TEXT: usize = 2;
@@ -29,34 +48,125 @@ const NAME: usize = 0;
 
 const SITE: usize = 1;
 
-// A page takes all of its area.
-fn size_of(area: &[u8]) -> usize
-    ensures { λ r. ⌜ r ≡ length (now (area .entry)) ⌝ }
+// The lengths where something is printed and nothing else is given.
+fn only_printed(prints: usize) -> Lengths
+    ensures { λ r. ⌜ r ≡ onlyPrinted prints ⌝ }
 {
-    area.len()
+    Lengths {
+        prints,
+        writes: 0,
+        says: 0,
+    }
 }
 
-fn print_sheet(
+// Makes the page of entries; or tells why they are refused.
+fn fill_page(entries: &[u32; ENTRIES], page: &mut [u8; SHEET_BYTES]) -> Answer
+    ensures { λ r. ⌜ r ≡ judged (now (entries .entry)) ⌝ }
+    ensures { λ r. ⌜ now (page .exit) ≡ left-by (judged (now (entries .entry))) (sheetText (sheet (now (entries .entry)))) (now (page .entry)) ⌝ }
+{
+    let mut cells = [0u32; CELLS];
+    let answer = sheet::fill(entries, &mut cells);
+    let Answer::Accepted = answer else {
+        return answer;
+    };
+    page::print(&cells, page);
+    answer
+}
+
+// Puts what stands on a page past its heading.
+fn put_under(heading: &[u8], body: &[u8], printed: &mut [u8; PRINTED_BYTES]) -> usize
+    requires { ⌜ (length (now heading) ≤ headingMost) × (length (now body) ≤ sheetBytes) ⌝ }
+    ensures { λ r. ⌜ Placed (now (printed .entry)) 0 (now (heading .entry) ++ now (body .entry)) (now (printed .exit)) r ⌝ }
+{
+    let at = text::put_bytes(printed, 0, heading);
+    text::put_bytes(printed, at, body)
+}
+
+// The page that says why entries are refused, which is said of whose they are, too.
+fn print_refused(
+    heading: &[u8],
+    whose: &[u8],
+    answer: Answer,
+    printed: &mut [u8; PRINTED_BYTES],
+    said: &mut [u8; SAID_BYTES],
+) -> Lengths
+    requires { ⌜ length (now heading) ≤ headingMost ⌝ }
+    ensures { λ r. ⌜ Left (refusedPage (now (heading .entry)) (now (whose .entry)) answer)
+        (now (printed .entry)) (now (said .entry)) (now (printed .exit)) (now (said .exit)) r ⌝ }
+{
+    let mut saying = [0u8; SAYING_BYTES];
+    let size = text_refusals::say_answer(answer, &mut saying);
+    let prints = put_under(heading, program_outcome::front(&saying, size), printed);
+    let says = program_refusals::say_answer_of(whose, answer, said);
+    Lengths {
+        prints,
+        writes: 0,
+        says,
+    }
+}
+
+// The page of entries.
+fn print_page(
+    heading: &[u8],
+    whose: &[u8],
     entries: &[u32; ENTRIES],
     printed: &mut [u8; PRINTED_BYTES],
     said: &mut [u8; SAID_BYTES],
 ) -> Lengths
-    ensures { λ r. ⌜ Left (sheetOf (now (entries .entry))) (now (printed .entry)) (now (said .entry)) (now (printed .exit)) (now (said .exit)) r ⌝ }
+    requires { ⌜ length (now heading) ≤ headingMost ⌝ }
+    ensures { λ r. ⌜ Left (pageOf (now (heading .entry)) (now (whose .entry)) (now (entries .entry)))
+        (now (printed .entry)) (now (said .entry)) (now (printed .exit)) (now (said .exit)) r ⌝ }
 {
-    let mut cells = [0u32; CELLS];
-    let answer = sheet::fill(entries, &mut cells);
+    let mut page = [0u8; SHEET_BYTES];
+    let answer = fill_page(entries, &mut page);
     if let Answer::Refused(why, place) = answer {
-        return program_outcome::only_said(program_refusals::say_answer(
-            Answer::Refused(why, place),
-            said,
-        ));
+        return print_refused(heading, whose, Answer::Refused(why, place), printed, said);
     }
-    let size = size_of(printed);
-    page::print(&cells, printed);
-    Lengths {
-        prints: size,
-        writes: 0,
-        says: 0,
+    only_printed(put_under(heading, &page, printed))
+}
+
+// The page of a text's entries, under its name and its title.
+fn print_text(
+    name: &[u8],
+    text: &[u8],
+    entries: &[u32; ENTRIES],
+    printed: &mut [u8; PRINTED_BYTES],
+    said: &mut [u8; SAID_BYTES],
+) -> Lengths
+    ensures { λ r. ⌜ Left (pageOf (textHeading (now (name .entry)) (titleOf (unmarked (now (text .entry))))) (now (name .entry)) (now (entries .entry)))
+        (now (printed .entry)) (now (said .entry)) (now (printed .exit)) (now (said .exit)) r ⌝ }
+{
+    let mut heading = [0u8; HEADING_BYTES];
+    let title = text_titles::title_in(text_scan::unmarked(text));
+    let size = program_heading::head_text(name, title, &mut heading);
+    print_page(
+        program_outcome::front(&heading, size),
+        name,
+        entries,
+        printed,
+        said,
+    )
+}
+
+fn read_text(
+    name: &[u8],
+    text: &[u8],
+    printed: &mut [u8; PRINTED_BYTES],
+    said: &mut [u8; SAID_BYTES],
+) -> Lengths
+    ensures { λ r. ⌜ Left (readAs (reading (now (text .entry))) (now (name .entry)) (now (text .entry)))
+        (now (printed .entry)) (now (said .entry)) (now (printed .exit)) (now (said .exit)) r ⌝ }
+{
+    let mut entries = [0u32; ENTRIES];
+    let reading = text_reader::read(text, &mut entries);
+    match reading {
+        Reading::Read => print_text(name, text, &entries, printed, said),
+        Reading::Misread(_, _) => {
+            program_outcome::only_said(program_refusals::say_reading(name, text, reading, said))
+        }
+        Reading::Refused(_, _, _) => {
+            program_outcome::only_said(program_refusals::say_reading(name, text, reading, said))
+        }
     }
 }
 
@@ -69,35 +179,84 @@ fn sheet_of_text(
     ensures { λ r. ⌜ Left (sheetOfText (now (name .entry)) (now (text .entry)))
         (now (printed .entry)) (now (said .entry)) (now (printed .exit)) (now (said .exit)) r ⌝ }
 {
-    let mut entries = [0u32; ENTRIES];
-    let reading = text_reader::read(text, &mut entries);
-    match reading {
-        Reading::Read => print_sheet(&entries, printed, said),
-        Reading::Misread(_, _) => {
-            program_outcome::only_said(program_refusals::say_reading(name, text, reading, said))
-        }
-        Reading::Refused(_, _, _) => {
-            program_outcome::only_said(program_refusals::say_reading(name, text, reading, said))
-        }
+    let answer = study::check(text);
+    if let Answer::Accepted = answer {
+        return program_outcome::only_said(program_outcome::say(name, Remark::IsStudy, said));
     }
+    read_text(name, text, printed, said)
+}
+
+// The page of a site's entries, under the study's name and the site's number.
+fn print_site(
+    name: &[u8],
+    spot: Spot,
+    entries: &[u32; ENTRIES],
+    printed: &mut [u8; PRINTED_BYTES],
+    said: &mut [u8; SAID_BYTES],
+) -> Lengths
+    requires { ⌜ spot .site + 1 < tooLarge ⌝ }
+    ensures { λ r. ⌜ Left (sitePage (now (name .entry)) spot (now (entries .entry)))
+        (now (printed .entry)) (now (said .entry)) (now (printed .exit)) (now (said .exit)) r ⌝ }
+{
+    let mut heading = [0u8; HEADING_BYTES];
+    let mut whose = [0u8; HEADING_BYTES];
+    let size = program_heading::head_site(name, spot, &mut heading);
+    let told = program_heading::name_site(name, spot.site, &mut whose);
+    print_page(
+        program_outcome::front(&heading, size),
+        program_outcome::front(&whose, told),
+        entries,
+        printed,
+        said,
+    )
 }
 
 fn sheet_of_site(
+    name: &[u8],
     word: &[u8],
     file: &[u8],
     printed: &mut [u8; PRINTED_BYTES],
     said: &mut [u8; SAID_BYTES],
 ) -> Lengths
-    ensures { λ r. ⌜ Left (sheetOfSite (now (word .entry)) (now (file .entry)))
+    ensures { λ r. ⌜ Left (sheetOfSite (now (name .entry)) (now (word .entry)) (now (file .entry)))
         (now (printed .entry)) (now (said .entry)) (now (printed .exit)) (now (said .exit)) r ⌝ }
 {
     let mut entries = [0u32; ENTRIES];
     let sought = program_site::read_site(file, word, &mut entries);
+    let sites = study::count(file);
     match sought {
-        Sought::Site(_) => print_sheet(&entries, printed, said),
-        Sought::Missing => program_outcome::only_said(program_site::say_site(sought, word, said)),
-        Sought::Bad(_, _) => program_outcome::only_said(program_site::say_site(sought, word, said)),
+        Sought::Site(site) => {
+            let follows = false;
+            let spot = Spot {
+                site,
+                sites,
+                follows,
+            };
+            print_site(name, spot, &entries, printed, said)
+        }
+        Sought::Missing(_) => {
+            program_outcome::only_said(program_site::say_site(sought, name, word, said))
+        }
+        Sought::Bad(_, _) => {
+            program_outcome::only_said(program_site::say_site(sought, name, word, said))
+        }
     }
+}
+
+// What is said before the pages of all sites.
+fn before_all(
+    name: &[u8],
+    word: &[u8],
+    file: &[u8],
+    printed: &mut [u8; PRINTED_BYTES],
+    said: &mut [u8; SAID_BYTES],
+) -> Lengths
+    ensures { λ r. ⌜ Left (beforeAll (now (name .entry)) (now (word .entry)) (now (file .entry)))
+        (now (printed .entry)) (now (said .entry)) (now (printed .exit)) (now (said .exit)) r ⌝ }
+{
+    let mut entries = [0u32; ENTRIES];
+    let sought = program_site::read_site(file, b"1", &mut entries);
+    program_outcome::only_said(program_site::say_site(sought, name, word, said))
 }
 
 // Whether so many arguments are right: then the first names a file to be read.
@@ -107,14 +266,17 @@ pub fn takes(count: usize) -> bool
     program_outcome::is_either(count, OF_TEXT, OF_STUDY)
 }
 
-fn say_use(said: &mut [u8; SAID_BYTES]) -> usize
-    ensures { λ r. ⌜ Placed (now (said .entry)) 0 sheetUse (now (said .exit)) r ⌝ }
+fn put_use(out: &mut [u8]) -> usize
+    requires { ⌜ useMost ≤ length (now out) ⌝ }
+    ensures { λ r. ⌜ Placed (now (out .entry)) 0 sheetUse (now (out .exit)) r ⌝ }
 {
     text::put_bytes(
-        said,
+        out,
         0,
         b"usage: icusheet TEXT         prints the worksheet of the junction in a text\n       \
-        icusheet STUDY SITE   prints that of a site of a study file, sites from 1\n",
+        icusheet STUDY SITE   prints that of a site of a study file, sites from 1\n       \
+        icusheet STUDY all    prints those of all its sites, a page each\n       \
+        icusheet --help       prints this, and --version the version\n",
     )
 }
 
@@ -129,13 +291,41 @@ fn sheet_of_file(
     ensures { λ r. ⌜ Left (sheetOfFile count (now (words .entry)) (now (file .entry)))
         (now (printed .entry)) (now (said .entry)) (now (printed .exit)) (now (said .exit)) r ⌝ }
 {
+    let name = program_words::word(words, NAME);
     if count == OF_TEXT {
-        return sheet_of_text(program_words::word(words, NAME), file, printed, said);
+        return sheet_of_text(name, file, printed, said);
     }
-    sheet_of_site(program_words::word(words, SITE), file, printed, said)
+    let word = program_words::word(words, SITE);
+    if program_wish::is_same(word, b"all") {
+        return before_all(name, word, file, printed, said);
+    }
+    sheet_of_site(name, word, file, printed, said)
 }
 
-// What `icusheet` gives; its file was read into the area.
+fn work(
+    call: Call,
+    words: &[u8],
+    area: &[u8; AREA_BYTES],
+    printed: &mut [u8; PRINTED_BYTES],
+    said: &mut [u8; SAID_BYTES],
+) -> Lengths
+    ensures { λ r. ⌜ Left (workRun call (now (words .entry)) (now (area .entry)))
+        (now (printed .entry)) (now (said .entry)) (now (printed .exit)) (now (said .exit)) r ⌝ }
+{
+    let count = call.arguments;
+    if !takes(count) {
+        return program_outcome::only_said(put_use(said));
+    }
+    let input = call.input;
+    let Input::Read(size) = input else {
+        let name = program_words::word(words, NAME);
+        return program_outcome::only_said(program_outcome::say(name, Remark::Unread, said));
+    };
+    let file = program_outcome::front(area, size);
+    sheet_of_file(count, words, file, printed, said)
+}
+
+// What `icusheet` gives once; its file was read into the area.
 pub fn run(
     call: Call,
     words: &[u8],
@@ -146,15 +336,76 @@ pub fn run(
     ensures { λ r. ⌜ Left (sheetRun call (now (words .entry)) (now (area .entry)))
         (now (printed .entry)) (now (said .entry)) (now (printed .exit)) (now (said .exit)) r ⌝ }
 {
-    let count = call.arguments;
-    if !takes(count) {
-        return program_outcome::only_said(say_use(said));
+    match program_wish::wish_of(call.arguments, program_words::word(words, NAME)) {
+        Wish::Help => only_printed(put_use(printed)),
+        Wish::Version => only_printed(program_wish::put_version(printed)),
+        Wish::Work => work(call, words, area, printed, said),
+    }
+}
+
+// How many pages follow: one for each site, where all are asked for.
+pub fn pages(call: Call, words: &[u8], area: &[u8; AREA_BYTES]) -> u32
+    ensures { λ r. ⌜ r ≡ pagesOf call (now (words .entry)) (now (area .entry)) ⌝ }
+{
+    if call.arguments != OF_STUDY {
+        return 0;
     }
     let input = call.input;
     let Input::Read(size) = input else {
-        let name = program_words::word(words, NAME);
-        return program_outcome::only_said(program_outcome::say(name, Remark::Unread, said));
+        return 0;
     };
-    let file = program_outcome::front(area, size);
-    sheet_of_file(count, words, file, printed, said)
+    if program_wish::is_same(program_words::word(words, SITE), b"all") {
+        return study::count(program_outcome::front(area, size));
+    }
+    0
+}
+
+fn page_in(
+    name: &[u8],
+    file: &[u8],
+    site: u32,
+    printed: &mut [u8; PRINTED_BYTES],
+    said: &mut [u8; SAID_BYTES],
+) -> Lengths
+    ensures { λ r. ⌜ Left (pageIn (now (name .entry)) (now (file .entry)) site)
+        (now (printed .entry)) (now (said .entry)) (now (printed .exit)) (now (said .exit)) r ⌝ }
+{
+    let sites = study::count(file);
+    if sites <= site {
+        return only_printed(0);
+    }
+    let mut entries = [0u32; ENTRIES];
+    study::site_entries(file, site, &mut entries);
+    let follows = site != 0;
+    let spot = Spot {
+        site,
+        sites,
+        follows,
+    };
+    print_site(name, spot, &entries, printed, said)
+}
+
+// What is printed and said for a site, from 0, among the pages of all.
+pub fn page(
+    input: Input,
+    words: &[u8],
+    area: &[u8; AREA_BYTES],
+    site: u32,
+    printed: &mut [u8; PRINTED_BYTES],
+    said: &mut [u8; SAID_BYTES],
+) -> Lengths
+    ensures { λ r. ⌜ Left (pageAt input (now (words .entry)) (now (area .entry)) site)
+        (now (printed .entry)) (now (said .entry)) (now (printed .exit)) (now (said .exit)) r ⌝ }
+{
+    let Input::Read(size) = input else {
+        return only_printed(0);
+    };
+    let name = program_words::word(words, NAME);
+    page_in(
+        name,
+        program_outcome::front(area, size),
+        site,
+        printed,
+        said,
+    )
 }

@@ -9,8 +9,8 @@ ghost use Rattle.text_scan.specs.Scanning.{wordTaken, next, usually, end
 ghost use Rattle.text_scan.specs.Scanning.{markSize, unmarked, parsed};
 ghost use Rattle.text_scan.specs.Working.{scan, cursorAt};
 use layout::ENTRIES;
-use text_values::Trouble;
 use text_titles::Titling;
+use text_values::Trouble;
 use text_words::Found;
 use text_words::Reader;
 

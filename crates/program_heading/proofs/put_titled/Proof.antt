@@ -17,8 +17,7 @@ unfolding titled ascii
 returns-2 c =
     let second = c .before .before in
     let first = second .before .before .before .before .before in
-    let title = rw (second .before .front .ensures .0) at (second .put-bytes2 .ensures) in
-    (
+    let title = rw (second .before .front .ensures .0) at (second .put-bytes2 .ensures) in (
       rw (ne-eqb _ _ (first .before .before .before .if1 .left)) (placed-after (first .put-bytes .ensures) title (omega arith)),
       omega (arith, second .put-bytes2 .ensures .next, first .put-bytes .ensures .next),
     )
