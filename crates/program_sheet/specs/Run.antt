@@ -1,22 +1,18 @@
 -- What `icusheet` gives: the worksheet of a junction's text or of a site of a study, or what is said.
 use Prim.Native.Nat.{ℕ}
 use mathlib.Core.Bool.{Bool, true, false, cond, not, _&&_}
-use mathlib.Core.List.{List, [], _++_}
+use mathlib.Core.List.{List, _++_}
 use lib.ListN.{take}
 use lib.Dec.{eqb, leb}
 use Rattle.answers.specs.declared.Answer.{Answer}
 use Rattle.answers.specs.declared.Answer.the-variants.{Accepted, Refused as No}
-use Rattle.entries.specs.Judging.{judged}
-use Rattle.procedure.specs.Sheet.{sheet}
-use Rattle.page.specs.Worksheet.{sheetText}
 use Rattle.study.specs.Study.{judgement, countOf, siteEntries}
 use Rattle.text.specs.Text.{ascii}
-use Rattle.text_titles.specs.Titles.{titleOf}
-use Rattle.text_scan.specs.Scanning.{unmarked, parsed}
+use Rattle.text_scan.specs.Scanning.{parsed}
 use Rattle.text_reader.specs.Reader.{reading}
 use Rattle.text_reader.specs.declared.Reading.{Reading}
 use Rattle.text_reader.specs.declared.Reading.the-variants.{Read, Misread, Refused}
-use Rattle.text_refusals.specs.Refusals.{answerText, readingText}
+use Rattle.text_refusals.specs.Refusals.{readingText}
 use Rattle.program_words.specs.Words.{wordAt}
 use Rattle.program_wish.specs.Wish.{same, wishOf, versionText}
 use Rattle.program_wish.specs.declared.Wish.{Wish}
@@ -27,28 +23,12 @@ use Rattle.program_outcome.specs.declared.Input.the-variants.{Read as Got, Fail
 use Rattle.program_outcome.specs.declared.Remark.the-variants.{IsStudy}
 use Rattle.program_outcome.specs.Outcome.{Outcome, isEither, printing, saying, named, remarked, withFile}
 use Rattle.program_site.specs.Site.{sought, withSite}
-use Rattle.program_heading.specs.Headings.{textHeading, siteTitle, siteHeading}
 use Rattle.program_heading.specs.declared.Spot.{Spot}
-
--- nothing is printed, and nothing said
-abbrev pub nothing : Outcome
-nothing = printing []
-
--- where entries are refused, the page says why under its heading, and it is said of whose they are
-abbrev pub refusedPage : List ℕ → List ℕ → Answer → Outcome
-refusedPage heading whose answer = record { prints = heading ++ answerText answer; writes = []; says = named whose (answerText answer) }
-
--- the page of entries
-abbrev pub pageBy : Answer → List ℕ → List ℕ → List ℕ → Outcome
-pageBy Accepted heading whose e = printing (heading ++ sheetText (sheet e))
-pageBy (No why place) heading whose e = refusedPage heading whose (No why place)
-
-unfoldable pub pageOf : List ℕ → List ℕ → List ℕ → Outcome
-pageOf heading whose e = pageBy (judged e) heading whose e
+use Rattle.program_page.specs.Pages.{nothing, textPage, sitePage}
 
 -- of the entries of a text, or what is wrong with it
 abbrev pub readAs : Reading → List ℕ → List ℕ → Outcome
-readAs Read name text = pageOf (textHeading name (titleOf (unmarked text))) name (parsed text .entries)
+readAs Read name text = textPage name text (parsed text .entries)
 readAs (Misread why place) name text = saying (named name (readingText text (Misread why place)))
 readAs (Refused why at place) name text = saying (named name (readingText text (Refused why at place)))
 
@@ -60,14 +40,11 @@ textBy (No why place) name text = readAs (reading text) name text
 unfoldable pub sheetOfText : List ℕ → List ℕ → Outcome
 sheetOfText name text = textBy (judgement text) name text
 
--- the page of a site that the study has
-unfoldable pub sitePage : List ℕ → Spot → List ℕ → Outcome
-sitePage name spot e = pageOf (siteHeading name spot) (siteTitle name (spot .site)) e
-
+-- a site of a study, and whether its page follows another
 abbrev pub spotIn : List ℕ → ℕ → Bool → Spot
 spotIn file site follows = record { site = site; sites = countOf file; follows = follows }
 
--- of the site that a word names
+-- of the site that a word names, alone
 unfoldable pub sheetOfSite : List ℕ → List ℕ → List ℕ → Outcome
 sheetOfSite name word file =
     withSite (sought file word) name word (λ site. sitePage name (spotIn file site false) (siteEntries file site))

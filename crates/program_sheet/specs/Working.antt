@@ -1,9 +1,5 @@
--- The lengths of what is only printed, and room for how the program is called: no public promise says it.
+-- Room for how the program is called: no public promise says it.
 use Prim.Native.Nat.{ℕ}
-use Rattle.program_outcome.specs.declared.Lengths.{Lengths}
-
-abbrev pub onlyPrinted : ℕ → Lengths
-onlyPrinted size = record { prints = size; writes = 0; says = 0 }
 
 abbrev pub useMost : ℕ
 useMost = 512

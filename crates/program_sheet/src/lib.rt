@@ -1,28 +1,15 @@
-// What `icusheet` prints and says: a call for what is printed once, and one for each page of a study; between reading and writing.
+// What `icusheet` prints and says: a call for what is given once, and one for each page of a study; between reading and writing.
 ghost use mathlib.Core.Path.{_≡_};
-ghost use mathlib.Core.List.{_++_};
-ghost use Prim.Native.Nat.{_+_, _≤_, _<_};
+ghost use Prim.Native.Nat.{_≤_};
 ghost use lib.ListN.{length};
-ghost use Rattle.answers.specs.Answers.{left-by};
-ghost use Rattle.entries.specs.Judging.{judged};
-ghost use Rattle.procedure.specs.Sheet.{sheet};
-ghost use Rattle.page.specs.Worksheet.{sheetBytes, sheetText};
 ghost use Rattle.text.specs.Text.{Placed};
-ghost use Rattle.text_titles.specs.Titles.{titleOf};
-ghost use Rattle.text_scan.specs.Scanning.{unmarked};
 ghost use Rattle.text_reader.specs.Reader.{reading};
-ghost use Rattle.text_numbers.specs.Numbers.{tooLarge};
 ghost use Rattle.program_outcome.specs.Outcome.{Left};
-ghost use Rattle.program_heading.specs.Headings.{textHeading};
-ghost use Rattle.program_heading.specs.Working.{headingMost};
-ghost use Rattle.program_sheet.specs.Run.{refusedPage, pageOf, readAs, sheetOfText, sitePage, sheetOfSite, beforeAll, sheetOfFile};
-ghost use Rattle.program_sheet.specs.Working.{onlyPrinted, useMost};
+ghost use Rattle.program_sheet.specs.Run.{readAs, sheetOfText, sheetOfSite, beforeAll, sheetOfFile};
 ghost use Rattle.program_sheet.specs.Run.{sheetUse, sheetTakes, sheetRun, workRun, pagesOf, pageIn, pageAt};
+ghost use Rattle.program_sheet.specs.Working.{useMost};
 use answers::Answer;
-use layout::CELLS;
 use layout::ENTRIES;
-use page::SHEET_BYTES;
-use program_heading::HEADING_BYTES;
 use program_heading::Spot;
 use program_outcome::AREA_BYTES;
 use program_outcome::Call;
@@ -33,10 +20,9 @@ use program_outcome::SAID_BYTES;
 use program_site::Sought;
 use program_wish::Wish;
 use text_reader::Reading;
-use text_refusals::SAYING_BYTES;
 
 // Room for what is printed: a heading and a page.
-pub const PRINTED_BYTES: usize = HEADING_BYTES + SHEET_BYTES;
+pub const PRINTED_BYTES: usize = program_page::PRINTED_BYTES;
 
 // The number of arguments, with a text; with a study and a site.
 const OF_TEXT: usize = 2;
@@ -47,106 +33,6 @@ const OF_STUDY: usize = 3;
 const NAME: usize = 0;
 
 const SITE: usize = 1;
-
-// The lengths where something is printed and nothing else is given.
-fn only_printed(prints: usize) -> Lengths
-    ensures { λ r. ⌜ r ≡ onlyPrinted prints ⌝ }
-{
-    Lengths {
-        prints,
-        writes: 0,
-        says: 0,
-    }
-}
-
-// Makes the page of entries; or tells why they are refused.
-fn fill_page(entries: &[u32; ENTRIES], page: &mut [u8; SHEET_BYTES]) -> Answer
-    ensures { λ r. ⌜ r ≡ judged (now (entries .entry)) ⌝ }
-    ensures { λ r. ⌜ now (page .exit) ≡ left-by (judged (now (entries .entry))) (sheetText (sheet (now (entries .entry)))) (now (page .entry)) ⌝ }
-{
-    let mut cells = [0u32; CELLS];
-    let answer = sheet::fill(entries, &mut cells);
-    let Answer::Accepted = answer else {
-        return answer;
-    };
-    page::print(&cells, page);
-    answer
-}
-
-// Puts what stands on a page past its heading.
-fn put_under(heading: &[u8], body: &[u8], printed: &mut [u8; PRINTED_BYTES]) -> usize
-    requires { ⌜ (length (now heading) ≤ headingMost) × (length (now body) ≤ sheetBytes) ⌝ }
-    ensures { λ r. ⌜ Placed (now (printed .entry)) 0 (now (heading .entry) ++ now (body .entry)) (now (printed .exit)) r ⌝ }
-{
-    let at = text::put_bytes(printed, 0, heading);
-    text::put_bytes(printed, at, body)
-}
-
-// The page that says why entries are refused, which is said of whose they are, too.
-fn print_refused(
-    heading: &[u8],
-    whose: &[u8],
-    answer: Answer,
-    printed: &mut [u8; PRINTED_BYTES],
-    said: &mut [u8; SAID_BYTES],
-) -> Lengths
-    requires { ⌜ length (now heading) ≤ headingMost ⌝ }
-    ensures { λ r. ⌜ Left (refusedPage (now (heading .entry)) (now (whose .entry)) answer)
-        (now (printed .entry)) (now (said .entry)) (now (printed .exit)) (now (said .exit)) r ⌝ }
-{
-    let mut saying = [0u8; SAYING_BYTES];
-    let size = text_refusals::say_answer(answer, &mut saying);
-    let prints = put_under(heading, program_outcome::front(&saying, size), printed);
-    let says = program_refusals::say_answer_of(whose, answer, said);
-    Lengths {
-        prints,
-        writes: 0,
-        says,
-    }
-}
-
-// The page of entries.
-fn print_page(
-    heading: &[u8],
-    whose: &[u8],
-    entries: &[u32; ENTRIES],
-    printed: &mut [u8; PRINTED_BYTES],
-    said: &mut [u8; SAID_BYTES],
-) -> Lengths
-    requires { ⌜ length (now heading) ≤ headingMost ⌝ }
-    ensures { λ r. ⌜ Left (pageOf (now (heading .entry)) (now (whose .entry)) (now (entries .entry)))
-        (now (printed .entry)) (now (said .entry)) (now (printed .exit)) (now (said .exit)) r ⌝ }
-{
-    let mut page = [0u8; SHEET_BYTES];
-    let answer = fill_page(entries, &mut page);
-    if let Answer::Refused(why, place) = answer {
-        return print_refused(heading, whose, Answer::Refused(why, place), printed, said);
-    }
-    only_printed(put_under(heading, &page, printed))
-}
-
-// The page of a text's entries, under its name and its title.
-fn print_text(
-    name: &[u8],
-    text: &[u8],
-    entries: &[u32; ENTRIES],
-    printed: &mut [u8; PRINTED_BYTES],
-    said: &mut [u8; SAID_BYTES],
-) -> Lengths
-    ensures { λ r. ⌜ Left (pageOf (textHeading (now (name .entry)) (titleOf (unmarked (now (text .entry))))) (now (name .entry)) (now (entries .entry)))
-        (now (printed .entry)) (now (said .entry)) (now (printed .exit)) (now (said .exit)) r ⌝ }
-{
-    let mut heading = [0u8; HEADING_BYTES];
-    let title = text_titles::title_in(text_scan::unmarked(text));
-    let size = program_heading::head_text(name, title, &mut heading);
-    print_page(
-        program_outcome::front(&heading, size),
-        name,
-        entries,
-        printed,
-        said,
-    )
-}
 
 fn read_text(
     name: &[u8],
@@ -160,7 +46,7 @@ fn read_text(
     let mut entries = [0u32; ENTRIES];
     let reading = text_reader::read(text, &mut entries);
     match reading {
-        Reading::Read => print_text(name, text, &entries, printed, said),
+        Reading::Read => program_page::print_text(name, text, &entries, printed, said),
         Reading::Misread(_, _) => {
             program_outcome::only_said(program_refusals::say_reading(name, text, reading, said))
         }
@@ -186,31 +72,6 @@ fn sheet_of_text(
     read_text(name, text, printed, said)
 }
 
-// The page of a site's entries, under the study's name and the site's number.
-fn print_site(
-    name: &[u8],
-    spot: Spot,
-    entries: &[u32; ENTRIES],
-    printed: &mut [u8; PRINTED_BYTES],
-    said: &mut [u8; SAID_BYTES],
-) -> Lengths
-    requires { ⌜ spot .site + 1 < tooLarge ⌝ }
-    ensures { λ r. ⌜ Left (sitePage (now (name .entry)) spot (now (entries .entry)))
-        (now (printed .entry)) (now (said .entry)) (now (printed .exit)) (now (said .exit)) r ⌝ }
-{
-    let mut heading = [0u8; HEADING_BYTES];
-    let mut whose = [0u8; HEADING_BYTES];
-    let size = program_heading::head_site(name, spot, &mut heading);
-    let told = program_heading::name_site(name, spot.site, &mut whose);
-    print_page(
-        program_outcome::front(&heading, size),
-        program_outcome::front(&whose, told),
-        entries,
-        printed,
-        said,
-    )
-}
-
 fn sheet_of_site(
     name: &[u8],
     word: &[u8],
@@ -232,7 +93,7 @@ fn sheet_of_site(
                 sites,
                 follows,
             };
-            print_site(name, spot, &entries, printed, said)
+            program_page::print_site(name, spot, &entries, printed, said)
         }
         Sought::Missing(_) => {
             program_outcome::only_said(program_site::say_site(sought, name, word, said))
@@ -337,8 +198,8 @@ pub fn run(
         (now (printed .entry)) (now (said .entry)) (now (printed .exit)) (now (said .exit)) r ⌝ }
 {
     match program_wish::wish_of(call.arguments, program_words::word(words, NAME)) {
-        Wish::Help => only_printed(put_use(printed)),
-        Wish::Version => only_printed(program_wish::put_version(printed)),
+        Wish::Help => program_page::only_printed(put_use(printed)),
+        Wish::Version => program_page::only_printed(program_wish::put_version(printed)),
         Wish::Work => work(call, words, area, printed, said),
     }
 }
@@ -372,7 +233,7 @@ fn page_in(
 {
     let sites = study::count(file);
     if sites <= site {
-        return only_printed(0);
+        return program_page::only_printed(0);
     }
     let mut entries = [0u32; ENTRIES];
     study::site_entries(file, site, &mut entries);
@@ -382,7 +243,7 @@ fn page_in(
         sites,
         follows,
     };
-    print_site(name, spot, &entries, printed, said)
+    program_page::print_site(name, spot, &entries, printed, said)
 }
 
 // What is printed and said for a site, from 0, among the pages of all.
@@ -398,7 +259,7 @@ pub fn page(
         (now (printed .entry)) (now (said .entry)) (now (printed .exit)) (now (said .exit)) r ⌝ }
 {
     let Input::Read(size) = input else {
-        return only_printed(0);
+        return program_page::only_printed(0);
     };
     let name = program_words::word(words, NAME);
     page_in(
