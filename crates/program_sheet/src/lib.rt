@@ -1,11 +1,16 @@
-// What `icusheet` prints and says: one call, between reading and writing.
+// What `icusheet` prints and says: a call for what is given once, and one for each page of a study; between reading and writing.
 ghost use mathlib.Core.Path.{_≡_};
+ghost use Prim.Native.Nat.{_≤_};
 ghost use lib.ListN.{length};
 ghost use Rattle.text.specs.Text.{Placed};
+ghost use Rattle.text_reader.specs.Reader.{reading};
 ghost use Rattle.program_outcome.specs.Outcome.{Left};
-ghost use Rattle.program_sheet.specs.Run.{sheetOf, sheetOfText, sheetOfSite, sheetOfFile, sheetUse, sheetTakes, sheetRun};
+ghost use Rattle.program_sheet.specs.Run.{readAs, sheetOfText, sheetOfSite, beforeAll, sheetOfFile};
+ghost use Rattle.program_sheet.specs.Run.{sheetUse, sheetTakes, sheetRun, workRun, pagesOf, pageIn, pageAt};
+ghost use Rattle.program_sheet.specs.Working.{useMost};
 use answers::Answer;
 use layout::ENTRIES;
+use program_heading::Spot;
 use program_outcome::AREA_BYTES;
 use program_outcome::Call;
 use program_outcome::Input;
@@ -13,10 +18,11 @@ use program_outcome::Lengths;
 use program_outcome::Remark;
 use program_outcome::SAID_BYTES;
 use program_site::Sought;
+use program_wish::Wish;
 use text_reader::Reading;
 
-// Room for what is printed: a page.
-pub const PRINTED_BYTES: usize = page::SHEET_BYTES;
+// Room for what is printed: a heading and a page.
+pub const PRINTED_BYTES: usize = program_page::PRINTED_BYTES;
 
 // The number of arguments, with a text; with a study and a site.
 const OF_TEXT: usize = 2;
@@ -28,34 +34,25 @@ const NAME: usize = 0;
 
 const SITE: usize = 1;
 
-// A page takes all of its area.
-fn size_of(area: &[u8]) -> usize
-    ensures { λ r. ⌜ r ≡ length (now (area .entry)) ⌝ }
-{
-    area.len()
-}
-
-fn print_sheet(
-    entries: &[u32; ENTRIES],
+fn read_text(
+    name: &[u8],
+    text: &[u8],
     printed: &mut [u8; PRINTED_BYTES],
     said: &mut [u8; SAID_BYTES],
 ) -> Lengths
-    ensures { λ r. ⌜ Left (sheetOf (now (entries .entry))) (now (printed .entry)) (now (said .entry)) (now (printed .exit)) (now (said .exit)) r ⌝ }
+    ensures { λ r. ⌜ Left (readAs (reading (now (text .entry))) (now (name .entry)) (now (text .entry)))
+        (now (printed .entry)) (now (said .entry)) (now (printed .exit)) (now (said .exit)) r ⌝ }
 {
-    let mut cells = [0u32; layout::PAGE_CELLS];
-    let answer = sheet_beside::fill(entries, &mut cells);
-    if let Answer::Refused(why, place) = answer {
-        return program_outcome::only_said(program_refusals::say_answer(
-            Answer::Refused(why, place),
-            said,
-        ));
-    }
-    let size = size_of(printed);
-    page::print(&cells, printed);
-    Lengths {
-        prints: size,
-        writes: 0,
-        says: 0,
+    let mut entries = [0u32; ENTRIES];
+    let reading = text_reader::read(text, &mut entries);
+    match reading {
+        Reading::Read => program_page::print_text(name, text, &entries, printed, said),
+        Reading::Misread(_, _) => {
+            program_outcome::only_said(program_refusals::say_reading(name, text, reading, said))
+        }
+        Reading::Refused(_, _, _) => {
+            program_outcome::only_said(program_refusals::say_reading(name, text, reading, said))
+        }
     }
 }
 
@@ -68,35 +65,59 @@ fn sheet_of_text(
     ensures { λ r. ⌜ Left (sheetOfText (now (name .entry)) (now (text .entry)))
         (now (printed .entry)) (now (said .entry)) (now (printed .exit)) (now (said .exit)) r ⌝ }
 {
-    let mut entries = [0u32; ENTRIES];
-    let reading = text_reader::read(text, &mut entries);
-    match reading {
-        Reading::Read => print_sheet(&entries, printed, said),
-        Reading::Misread(_, _) => {
-            program_outcome::only_said(program_refusals::say_reading(name, text, reading, said))
-        }
-        Reading::Refused(_, _, _) => {
-            program_outcome::only_said(program_refusals::say_reading(name, text, reading, said))
-        }
+    let answer = study::check(text);
+    if let Answer::Accepted = answer {
+        return program_outcome::only_said(program_outcome::say(name, Remark::IsStudy, said));
     }
+    read_text(name, text, printed, said)
 }
 
 fn sheet_of_site(
+    name: &[u8],
     word: &[u8],
     file: &[u8],
     printed: &mut [u8; PRINTED_BYTES],
     said: &mut [u8; SAID_BYTES],
 ) -> Lengths
-    ensures { λ r. ⌜ Left (sheetOfSite (now (word .entry)) (now (file .entry)))
+    ensures { λ r. ⌜ Left (sheetOfSite (now (name .entry)) (now (word .entry)) (now (file .entry)))
         (now (printed .entry)) (now (said .entry)) (now (printed .exit)) (now (said .exit)) r ⌝ }
 {
     let mut entries = [0u32; ENTRIES];
     let sought = program_site::read_site(file, word, &mut entries);
+    let sites = study::count(file);
     match sought {
-        Sought::Site(_) => print_sheet(&entries, printed, said),
-        Sought::Missing => program_outcome::only_said(program_site::say_site(sought, word, said)),
-        Sought::Bad(_, _) => program_outcome::only_said(program_site::say_site(sought, word, said)),
+        Sought::Site(site) => {
+            let follows = false;
+            let spot = Spot {
+                site,
+                sites,
+                follows,
+            };
+            program_page::print_site(name, spot, &entries, printed, said)
+        }
+        Sought::Missing(_) => {
+            program_outcome::only_said(program_site::say_site(sought, name, word, said))
+        }
+        Sought::Bad(_, _) => {
+            program_outcome::only_said(program_site::say_site(sought, name, word, said))
+        }
     }
+}
+
+// What is said before the pages of all sites.
+fn before_all(
+    name: &[u8],
+    word: &[u8],
+    file: &[u8],
+    printed: &mut [u8; PRINTED_BYTES],
+    said: &mut [u8; SAID_BYTES],
+) -> Lengths
+    ensures { λ r. ⌜ Left (beforeAll (now (name .entry)) (now (word .entry)) (now (file .entry)))
+        (now (printed .entry)) (now (said .entry)) (now (printed .exit)) (now (said .exit)) r ⌝ }
+{
+    let mut entries = [0u32; ENTRIES];
+    let sought = program_site::read_site(file, b"1", &mut entries);
+    program_outcome::only_said(program_site::say_site(sought, name, word, said))
 }
 
 // Whether so many arguments are right: then the first names a file to be read.
@@ -106,14 +127,17 @@ pub fn takes(count: usize) -> bool
     program_outcome::is_either(count, OF_TEXT, OF_STUDY)
 }
 
-fn say_use(said: &mut [u8; SAID_BYTES]) -> usize
-    ensures { λ r. ⌜ Placed (now (said .entry)) 0 sheetUse (now (said .exit)) r ⌝ }
+fn put_use(out: &mut [u8]) -> usize
+    requires { ⌜ useMost ≤ length (now out) ⌝ }
+    ensures { λ r. ⌜ Placed (now (out .entry)) 0 sheetUse (now (out .exit)) r ⌝ }
 {
     text::put_bytes(
-        said,
+        out,
         0,
         b"usage: icusheet TEXT         prints the worksheet of the junction in a text\n       \
-        icusheet STUDY SITE   prints that of a site of a study file, sites from 1\n",
+        icusheet STUDY SITE   prints that of a site of a study file, sites from 1\n       \
+        icusheet STUDY all    prints those of all its sites, a page each\n       \
+        icusheet --help       prints this, and --version the version\n",
     )
 }
 
@@ -128,13 +152,41 @@ fn sheet_of_file(
     ensures { λ r. ⌜ Left (sheetOfFile count (now (words .entry)) (now (file .entry)))
         (now (printed .entry)) (now (said .entry)) (now (printed .exit)) (now (said .exit)) r ⌝ }
 {
+    let name = program_words::word(words, NAME);
     if count == OF_TEXT {
-        return sheet_of_text(program_words::word(words, NAME), file, printed, said);
+        return sheet_of_text(name, file, printed, said);
     }
-    sheet_of_site(program_words::word(words, SITE), file, printed, said)
+    let word = program_words::word(words, SITE);
+    if program_wish::is_same(word, b"all") {
+        return before_all(name, word, file, printed, said);
+    }
+    sheet_of_site(name, word, file, printed, said)
 }
 
-// What `icusheet` gives; its file was read into the area.
+fn work(
+    call: Call,
+    words: &[u8],
+    area: &[u8; AREA_BYTES],
+    printed: &mut [u8; PRINTED_BYTES],
+    said: &mut [u8; SAID_BYTES],
+) -> Lengths
+    ensures { λ r. ⌜ Left (workRun call (now (words .entry)) (now (area .entry)))
+        (now (printed .entry)) (now (said .entry)) (now (printed .exit)) (now (said .exit)) r ⌝ }
+{
+    let count = call.arguments;
+    if !takes(count) {
+        return program_outcome::only_said(put_use(said));
+    }
+    let input = call.input;
+    let Input::Read(size) = input else {
+        let name = program_words::word(words, NAME);
+        return program_outcome::only_said(program_outcome::say(name, Remark::Unread, said));
+    };
+    let file = program_outcome::front(area, size);
+    sheet_of_file(count, words, file, printed, said)
+}
+
+// What `icusheet` gives once; its file was read into the area.
 pub fn run(
     call: Call,
     words: &[u8],
@@ -145,15 +197,76 @@ pub fn run(
     ensures { λ r. ⌜ Left (sheetRun call (now (words .entry)) (now (area .entry)))
         (now (printed .entry)) (now (said .entry)) (now (printed .exit)) (now (said .exit)) r ⌝ }
 {
-    let count = call.arguments;
-    if !takes(count) {
-        return program_outcome::only_said(say_use(said));
+    match program_wish::wish_of(call.arguments, program_words::word(words, NAME)) {
+        Wish::Help => program_page::only_printed(put_use(printed)),
+        Wish::Version => program_page::only_printed(program_wish::put_version(printed)),
+        Wish::Work => work(call, words, area, printed, said),
+    }
+}
+
+// How many pages follow: one for each site, where all are asked for.
+pub fn pages(call: Call, words: &[u8], area: &[u8; AREA_BYTES]) -> u32
+    ensures { λ r. ⌜ r ≡ pagesOf call (now (words .entry)) (now (area .entry)) ⌝ }
+{
+    if call.arguments != OF_STUDY {
+        return 0;
     }
     let input = call.input;
     let Input::Read(size) = input else {
-        let name = program_words::word(words, NAME);
-        return program_outcome::only_said(program_outcome::say(name, Remark::Unread, said));
+        return 0;
     };
-    let file = program_outcome::front(area, size);
-    sheet_of_file(count, words, file, printed, said)
+    if program_wish::is_same(program_words::word(words, SITE), b"all") {
+        return study::count(program_outcome::front(area, size));
+    }
+    0
+}
+
+fn page_in(
+    name: &[u8],
+    file: &[u8],
+    site: u32,
+    printed: &mut [u8; PRINTED_BYTES],
+    said: &mut [u8; SAID_BYTES],
+) -> Lengths
+    ensures { λ r. ⌜ Left (pageIn (now (name .entry)) (now (file .entry)) site)
+        (now (printed .entry)) (now (said .entry)) (now (printed .exit)) (now (said .exit)) r ⌝ }
+{
+    let sites = study::count(file);
+    if sites <= site {
+        return program_page::only_printed(0);
+    }
+    let mut entries = [0u32; ENTRIES];
+    study::site_entries(file, site, &mut entries);
+    let follows = site != 0;
+    let spot = Spot {
+        site,
+        sites,
+        follows,
+    };
+    program_page::print_site(name, spot, &entries, printed, said)
+}
+
+// What is printed and said for a site, from 0, among the pages of all.
+pub fn page(
+    input: Input,
+    words: &[u8],
+    area: &[u8; AREA_BYTES],
+    site: u32,
+    printed: &mut [u8; PRINTED_BYTES],
+    said: &mut [u8; SAID_BYTES],
+) -> Lengths
+    ensures { λ r. ⌜ Left (pageAt input (now (words .entry)) (now (area .entry)) site)
+        (now (printed .entry)) (now (said .entry)) (now (printed .exit)) (now (said .exit)) r ⌝ }
+{
+    let Input::Read(size) = input else {
+        return program_page::only_printed(0);
+    };
+    let name = program_words::word(words, NAME);
+    page_in(
+        name,
+        program_outcome::front(area, size),
+        site,
+        printed,
+        said,
+    )
 }

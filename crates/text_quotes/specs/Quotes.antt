@@ -6,7 +6,8 @@ use lib.ListN.{length, getD, take, drop}
 use lib.Dec.{leb, ltb}
 use Rattle.lists.specs.Lists.{table}
 use Rattle.text.specs.Text.{ascii, firstIn}
-use Rattle.text_scan.specs.Scanning.{endsWord}
+use Rattle.text_titles.specs.Blanks.{endsWord}
+use Rattle.text_titles.specs.Titles.{quote}
 
 -- the word that begins at a place of a text
 abbrev pub firstWord : List ℕ → List ℕ
@@ -29,10 +30,6 @@ shown word = table (λ i. shownByte (getD word i 0)) (min (length word) shownMos
 -- two points stand for what is not shown
 unfoldable pub restMark : List ℕ → List ℕ
 restMark word = cond (ltb shownMost (length word)) (ascii "..") []
-
--- the byte of a quote
-abbrev pub quote : ℕ
-quote = 34
 
 -- a word in quotes
 unfoldable pub quoted : List ℕ → List ℕ

@@ -3,7 +3,7 @@ ghost use mathlib.Core.Path.{_≡_};
 ghost use Prim.Native.Nat.{_+_, _≤_, min};
 ghost use lib.ListN.{length};
 ghost use Rattle.text.specs.Text.{Placed, firstIn};
-ghost use Rattle.text_scan.specs.Scanning.{endsWord};
+ghost use Rattle.text_titles.specs.Blanks.{endsWord};
 ghost use Rattle.text_quotes.specs.Quotes.{firstWord, wordAt, shownMost, shownByte, shown, restMark, quoted};
 ghost use Rattle.text_quotes.specs.Working.{quotedMost};
 
@@ -16,7 +16,7 @@ fn word_size(text: &[u8]) -> usize
 {
     let mut at: usize = 0;
     while at < text.len() {
-        if text_scan::ends_word(text[at]) {
+        if text_titles::ends_word(text[at]) {
             return at;
         }
         at += 1;

@@ -4,13 +4,14 @@ use mathlib.Core.Path.{_≡_, _∙_}
 use mathlib.Core.Bool.{Bool, true, false, cond}
 use mathlib.Core.List.{List}
 use lib.ListN.{length, getD, List·getD-eq-default}
-use lib.Dec.{eqb}
 use native.Mathlib.Numerals.{add-one}
 use native.Mathlib.Decide.{decLt}
 use native.Mathlib.Omega.{arith}
+use borrow.Author.Tests.{le-ltb}
+use Rattle.text_titles.specs.Blanks.{endsWord, goesOn}
 use Rattle.text_words.specs.Words.{state}
 use Rattle.text_words.specs.declared.Reader.{Reader}
-use Rattle.text_scan.specs.Scanning.{Scan, hash, endsWord, wordTaken, next, scanned, ended, lastTaken, wordsParsed, markBytes, isMarked, markSize}
+use Rattle.text_scan.specs.Scanning.{Scan, wordTaken, next, scanned, ended, lastTaken, wordsParsed, markBytes, isMarked, markSize}
 
 -- one byte more of a text
 pub scan-more : (text : List ℕ) (n : ℕ) {one two : Scan} → one ≡ scanned text n → two ≡ next text n one → two ≡ scanned text (n + 1)
@@ -19,15 +20,15 @@ scan-more text n so is = is ∙ rw (add-one n, so)
 
 -- a byte that goes on with a word, and one that ends it
 
-module _ (text : List ℕ) (n : ℕ) (s : Scan) (said : s .isComment ≡ false) where
+module _ (text : List ℕ) (n : ℕ) (s : Scan) (past : s .begun ≤ n) (said : s .isComment ≡ false) where
   pub next-within : endsWord (getD text n 0) ≡ false → next text n s ≡ s
   unfolding next
-  next-within e = rw (said, e)
+  next-within e = rw (le-ltb n (s .begun) past, said, e)
 
   pub next-ends : endsWord (getD text n 0) ≡ true
-      → next text n s ≡ record { state = wordTaken text n s; begun = n + 1; isComment = eqb (getD text n 0) hash }
+      → next text n s ≡ record { state = wordTaken text n s; begun = n + 1; isComment = goesOn (s .isComment) (getD text n 0) }
   unfolding next
-  next-ends e = rw (said, e)
+  next-ends e = rw (le-ltb n (s .begun) past, said, e)
 
 -- the end of the text
 pub all-parsed : (text : List ℕ) (n : ℕ) {s : Scan} {one two : Reader} {entries places : List ℕ} → n ≡ length text → s ≡ scanned text n

@@ -1,34 +1,22 @@
 -- A junction as text. Blanks part the words, `#` begins a comment that ends with its line, and an entry that is not written
--- has its kind's usual value. A byte-order mark at the front is passed over: places in the text are counted past it.
+-- has its kind's usual value. A byte-order mark at the front is passed over: places in the text are counted past it. So is the
+-- text's title, whose bytes are counted.
 use Prim.Native.Nat.{ℕ, zero, suc, _+_, _-_}
-use mathlib.Core.Bool.{Bool, true, false, cond, not, _&&_, _||_}
+use mathlib.Core.Bool.{Bool, true, false, cond, _&&_}
 use mathlib.Core.List.{List}
 use lib.ListN.{length, getD, take, drop, replicate}
 use lib.Dec.{eqb, ltb}
 use Rattle.layout.specs.Entries.{entryCount}
 use Rattle.lists.specs.Lists.{table}
 use Rattle.kinds.specs.Kinds.{limitsOf, kindAt}
-use Rattle.text_names.specs.Names.{space, lineFeed, titleCount}
+use Rattle.text_names.specs.Names.{titleCount}
+use Rattle.text_titles.specs.Blanks.{endsWord, goesOn}
+use Rattle.text_titles.specs.Titles.{titlingOf}
+use Rattle.text_titles.specs.declared.Titling.{Titling}
+use Rattle.text_titles.specs.declared.Titling.the-variants.{Untitled, Titled, Mistitled}
 use Rattle.text_words.specs.Words.{stands, wrong, unless, State, state, taken}
-use Rattle.text_values.specs.declared.Trouble.the-variants.{Ends}
+use Rattle.text_values.specs.declared.Trouble.the-variants.{Ends, BadTitle}
 use Rattle.text_words.specs.declared.Reader.{Reader}
-
-abbrev pub tab : ℕ
-tab = 9
-
-abbrev pub carriageReturn : ℕ
-carriageReturn = 13
-
--- it begins a comment
-abbrev pub hash : ℕ
-hash = 35
-
--- space, tab, carriage return and line feed part the words
-abbrev pub isBlank : ℕ → Bool
-isBlank byte = eqb byte space || eqb byte tab || eqb byte carriageReturn || eqb byte lineFeed
-
-abbrev pub endsWord : ℕ → Bool
-endsWord byte = isBlank byte || eqb byte hash
 
 -- what is read so far, and where the word begins that is not taken yet; the next byte, if none has begun
 pub record Scan : Type 0 where
@@ -44,25 +32,38 @@ part text from to = take (to - from) (drop from text)
 unfoldable pub wordTaken : List ℕ → ℕ → Scan → State
 wordTaken text n s = cond (ltb (s .begun) n) (taken (s .begun) (part text (s .begun) n) (s .state)) (s .state)
 
+-- a byte before the place where a word may begin is a title's, and is passed over
 unfoldable pub next : List ℕ → ℕ → Scan → Scan
 next text n s =
-    cond (s .isComment) (record { state = s .state; begun = n + 1; isComment = not (eqb (getD text n 0) lineFeed) })
-    (cond (endsWord (getD text n 0)) (record { state = wordTaken text n s; begun = n + 1; isComment = eqb (getD text n 0) hash }) s)
+    cond (ltb n (s .begun)) s
+    (cond (s .isComment) (record { state = s .state; begun = n + 1; isComment = goesOn (s .isComment) (getD text n 0) })
+    (cond (endsWord (getD text n 0)) (record { state = wordTaken text n s; begun = n + 1; isComment = goesOn (s .isComment) (getD text n 0) }) s))
 
 abbrev pub usually : ℕ → ℕ
 usually i = limitsOf (kindAt i) .usual
 
-abbrev pub start : Scan
-start =
+-- the reader at the start of a text, and the place where its first word may begin: past its title
+abbrev pub startReader : Titling → Reader
+startReader Untitled = stands titleCount entryCount
+startReader (Titled from size past) = stands titleCount entryCount
+startReader (Mistitled place) = wrong BadTitle place (stands titleCount entryCount)
+
+abbrev pub startPlace : Titling → ℕ
+startPlace Untitled = 0
+startPlace (Titled from size past) = past
+startPlace (Mistitled place) = 0
+
+abbrev pub start : Titling → Scan
+start titling =
     record {
-      state = state (stands titleCount entryCount) (table usually entryCount) (replicate entryCount 0);
-      begun = 0;
+      state = state (startReader titling) (table usually entryCount) (replicate entryCount 0);
+      begun = startPlace titling;
       isComment = false;
     }
 
 -- the first n bytes
 unfoldable pub scanned : List ℕ → ℕ → Scan
-scanned text zero = start
+scanned text zero = start (titlingOf text)
 scanned text (suc n) = next text n (scanned text n)
 
 -- at the end no value may be due

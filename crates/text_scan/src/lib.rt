@@ -1,14 +1,15 @@
 // A junction's text scanned: its words are found, and taken one after the other.
 ghost use mathlib.Core.Path.{_≡_};
 ghost use Prim.Native.Nat.{_≤_, _<_};
-ghost use lib.ListN.{length, getD, replicate};
+ghost use lib.ListN.{length, replicate};
 ghost use Rattle.layout.specs.Entries.{entryCount};
 ghost use Rattle.lists.specs.Lists.{table};
 ghost use Rattle.text_words.specs.Words.{state};
-ghost use Rattle.text_scan.specs.Scanning.{isBlank, endsWord, wordTaken, next, usually, ended, wordsParsed};
+ghost use Rattle.text_scan.specs.Scanning.{wordTaken, next, usually, ended, wordsParsed};
 ghost use Rattle.text_scan.specs.Scanning.{markSize, unmarked, parsed};
-ghost use Rattle.text_scan.specs.Working.{scan};
+ghost use Rattle.text_scan.specs.Working.{scan, cursorAt};
 use layout::ENTRIES;
+use text_titles::Titling;
 use text_values::Trouble;
 use text_words::Found;
 use text_words::Reader;
@@ -21,31 +22,6 @@ struct Cursor {
     reader: Reader,
     begun: usize,
     quiet: bool,
-}
-
-fn is_blank(byte: u8) -> bool
-    ensures { λ r. ⌜ r ≡ isBlank byte ⌝ }
-{
-    if byte == b' ' {
-        return true;
-    }
-    if byte == b'\t' {
-        return true;
-    }
-    if byte == b'\r' {
-        return true;
-    }
-    byte == b'\n'
-}
-
-// Whether a byte ends the word before it.
-pub fn ends_word(byte: u8) -> bool
-    ensures { λ r. ⌜ r ≡ endsWord byte ⌝ }
-{
-    if is_blank(byte) {
-        return true;
-    }
-    byte == b'#'
 }
 
 // Takes the word that ends at a place, if there is one.
@@ -73,23 +49,27 @@ fn go_on(text: &[u8], n: usize, cursor: Cursor, entries: &mut [u32], places: &mu
     ensures { λ r. ⌜ scan r (now (entries .exit)) (now (places .exit))
         ≡ next (now (text .entry)) n (scan cursor (now (entries .entry)) (now (places .entry))) ⌝ }
 {
+    if n < cursor.begun {
+        return cursor;
+    }
     let byte = text[n];
+    let quiet = text_titles::goes_on(cursor.quiet, byte);
     if cursor.quiet {
         let reader = cursor.reader;
         return Cursor {
             reader,
             begun: n + 1,
-            quiet: byte != b'\n',
+            quiet,
         };
     }
-    if !ends_word(byte) {
+    if !text_titles::ends_word(byte) {
         return cursor;
     }
     let reader = take_word(text, n, cursor, entries, places);
     Cursor {
         reader,
         begun: n + 1,
-        quiet: byte == b'#',
+        quiet,
     }
 }
 
@@ -107,27 +87,17 @@ fn end(size: usize, reader: Reader) -> Reader
     reader
 }
 
-// The byte at a place; 0 past the end.
-fn byte_at(text: &[u8], place: usize) -> u8
-    ensures { λ r. ⌜ r ≡ getD (now (text .entry)) place 0 ⌝ }
-{
-    if place < text.len() {
-        return text[place];
-    }
-    0
-}
-
 // The bytes of the byte-order mark at the front of a text; 0 if it has none.
 pub fn mark_size(text: &[u8]) -> usize
     ensures { λ r. ⌜ (r ≡ markSize (now (text .entry))) × (r ≤ length (now (text .entry))) ⌝ }
 {
-    if byte_at(text, 0) != b'\xEF' {
+    if text_titles::byte_at(text, 0) != b'\xEF' {
         return 0;
     }
-    if byte_at(text, 1) != b'\xBB' {
+    if text_titles::byte_at(text, 1) != b'\xBB' {
         return 0;
     }
-    if byte_at(text, 2) != b'\xBF' {
+    if text_titles::byte_at(text, 2) != b'\xBF' {
         return 0;
     }
     MARK_BYTES
@@ -141,16 +111,36 @@ pub fn unmarked(text: &[u8]) -> &[u8]
     &text[from..]
 }
 
+// The cursor at the start of a text: past its title.
+fn begin(titling: Titling) -> Cursor
+    ensures { λ r. ⌜ r ≡ cursorAt titling ⌝ }
+{
+    let reader = Reader::stands(text_names::TITLES, ENTRIES);
+    match titling {
+        Titling::Untitled => Cursor {
+            reader,
+            begun: 0,
+            quiet: false,
+        },
+        Titling::Titled(_, _, past) => Cursor {
+            reader,
+            begun: past,
+            quiet: false,
+        },
+        Titling::Mistitled(place) => Cursor {
+            reader: reader.wrong(Trouble::BadTitle, place),
+            begun: 0,
+            quiet: false,
+        },
+    }
+}
+
 // Takes every word of a text that has no mark.
 fn parse_words(text: &[u8], entries: &mut [u32], places: &mut [usize]) -> Reader
     requires { ⌜ (now entries ≡ table usually entryCount) × (now places ≡ replicate entryCount 0) ⌝ }
     ensures { λ r. ⌜ state r (now (entries .exit)) (now (places .exit)) ≡ wordsParsed (now (text .entry)) ⌝ }
 {
-    let mut cursor = Cursor {
-        reader: Reader::stands(text_names::TITLES, ENTRIES),
-        begun: 0,
-        quiet: false,
-    };
+    let mut cursor = begin(text_titles::titling_of(text));
     let mut n: usize = 0;
     while n < text.len() {
         cursor = go_on(text, n, cursor, entries, places);

@@ -6,12 +6,13 @@ use mathlib.Core.List.{List, [], _∷_, _++_}
 use lib.ListN.{length, getD, take, drop, length-append}
 use lib.Seq.{getD-append-seam, take-append-seam, drop-append-seam, take-take, take-add, drop-drop, getD-drop, getD-take}
 use lib.Dec.{eqb}
-use borrow.Author.Tests.{lt-ltb}
+use borrow.Author.Tests.{lt-ltb, le-ltb}
 use native.Mathlib.Nat.{add-zero, add-suc}
 use native.Mathlib.Numerals.{add-one}
 use native.Mathlib.Omega.{arith}
 use Rattle.text_words.specs.Words.{State, taken}
-use Rattle.text_scan.specs.Scanning.{hash, endsWord, Scan, wordTaken, next, scanned}
+use Rattle.text_titles.specs.Blanks.{hash, endsWord}
+use Rattle.text_scan.specs.Scanning.{Scan, wordTaken, next, scanned}
 
 -- bytes that stand at a place of a text
 
@@ -68,7 +69,7 @@ reads-plain : (text : List ℕ) (at n : ℕ) (s : State) → ((i : ℕ) → i < 
 unfolding scanned next
 reads-plain text at zero s plain r = rw add-zero r
 reads-plain text at (suc n) s plain r =
-    rw (add-suc at n, reads-plain text at n s (λ i h. plain i (omega arith)) r, plain n (omega arith))
+    rw (add-suc at n, reads-plain text at n s (λ i h. plain i (omega arith)) r, le-ltb (at + n) at (omega arith), plain n (omega arith))
 
 -- the word is taken where its end is read
 pub reads-word : (text : List ℕ) (at : ℕ) (word : List ℕ) (byte : ℕ) (s : State) → Has text at (word ++ (byte ∷ []))
@@ -83,4 +84,4 @@ reads-word text at word byte s has is blank r =
     let before = reads-plain text at (length word) s (λ i h. rw (has-byte text at word i here h) (is .plain i h)) r in
     let past : at + length (word ++ (byte ∷ [])) ≡ suc end = omega arith in
     let size : end - at ≡ length word = omega arith in
-    rw (past, before, last, blank .ends, blank .quiet, lt-ltb at end (omega (arith, is .some)), size, here, add-one)
+    rw (past, before, le-ltb end at (omega arith), last, blank .ends, blank .quiet, lt-ltb at end (omega (arith, is .some)), size, here, add-one)

@@ -28,7 +28,11 @@ use Rattle.text_names.specs.Names.{classAt, titleOf, kindOf, isFirst, isLast}
 use Rattle.text_names.proofs.Laws.{in-place}
 use Rattle.text_words.specs.Words.{stands, State, state}
 use Rattle.text_words.proofs.Laws.{title-named, kind-named, value-set}
-use Rattle.text_scan.specs.Scanning.{tab, carriageReturn, hash, endsWord, wordTaken, scanned, start, usually, ended, wordsParsed, unmarked, parsed}
+use Rattle.text_titles.specs.Blanks.{tab, carriageReturn, hash, endsWord}
+use Rattle.text_titles.specs.Titles.{titlingOf}
+use Rattle.text_titles.specs.declared.Titling.the-variants.{Untitled}
+use Rattle.text_titles.proofs.Laws.{no-title}
+use Rattle.text_scan.specs.Scanning.{wordTaken, scanned, start, usually, ended, wordsParsed, unmarked, parsed}
 use Rattle.text_reader.specs.Reader.{textMost, shortReading, reading, keptUnlessRead}
 use Rattle.text_reader.specs.declared.Reading.the-variants.{Read}
 use Rattle.text_writer.specs.Writer.{opening, closing, named, entryText, entryTexts, junctionText}
@@ -181,7 +185,7 @@ valueIn e i = getD e i 0
 
 record Reached (e text : List ℕ) (n : ℕ) : Type 0 where
   places : List ℕ
-  reads : Reads text 0 (entryTexts e n) (start .state)
+  reads : Reads text 0 (entryTexts e n) (start Untitled .state)
       (state (stands (titleAfter n) entryCount) (table (valueIn e) n ++ drop n (table usually entryCount)) places)
   none : (i : ℕ) → n ≤ i → getD places i 0 ≡ 0
 
@@ -221,7 +225,7 @@ module _ (e text : List ℕ) (fits : AllBelow tooLarge e) where
       one-more n (omega arith) (has-second text 0 (entryTexts e n) entry has)
       (reached n (omega arith) (has-first text 0 (entryTexts e n) entry has))
 
--- what is written begins with the E of the first title, so with no mark
+-- what is written begins with the E of the first title, so with no mark and no title in quotes
 
 begins : (first second : List ℕ) (byte : ℕ) → 0 < byte → getD first 0 0 ≡ byte → getD (first ++ second) 0 0 ≡ byte
 begins [] second byte some is = absurd (omega (arith, some, is))
@@ -240,6 +244,9 @@ text-begins e (suc n) =
 
 no-mark : (text : List ℕ) → getD text 0 0 ≡ letterE → unmarked text ≡ text
 no-mark text is = rw is
+
+not-titled : (text : List ℕ) → getD text 0 0 ≡ letterE → titlingOf text ≡ Untitled
+not-titled text is = no-title text (rw is refl) (rw is refl)
 
 -- as many numbers of 32 bits as there are entries, written and read
 
@@ -260,7 +267,7 @@ module _ (e : List ℕ) (size : length e ≡ entryCount) (fits : AllBelow (2 ^ 3
       let end = length (junctionText e) in
       rw (
         no-mark (junctionText e) (text-begins e (entryCount - 1)),
-        rw (zero-add, all-set) at (all-reached .reads refl),
+        rw (zero-add, all-set) at (all-reached .reads (rw (not-titled (junctionText e) (text-begins e (entryCount - 1))) refl)),
         le-ltb end end (omega arith),
       )
 

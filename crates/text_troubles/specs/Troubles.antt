@@ -5,7 +5,7 @@ use Rattle.text.specs.Text.{ascii}
 use Rattle.text_quotes.specs.Quotes.{quoted}
 use Rattle.text_values.specs.declared.Trouble.{Trouble}
 use Rattle.text_values.specs.declared.Trouble.the-variants.{Unknown, NoTitle, NotOfTitle, Twice}
-use Rattle.text_values.specs.declared.Trouble.the-variants.{NotNumber, NotTime, TooLarge, Ends, TooLong}
+use Rattle.text_values.specs.declared.Trouble.the-variants.{NotNumber, NotTime, TooLarge, Ends, TooLong, BadTitle}
 
 -- a row for each trouble, and the word that it is about
 abbrev pub troubleText : Trouble → List ℕ → List ℕ
@@ -18,3 +18,4 @@ troubleText NotTime word = ascii "a time is written with its unit, as 4s, 4.5s o
 troubleText TooLarge word = ascii "this number is too large\n"
 troubleText Ends word = ascii "the text ends where a value is expected\n"
 troubleText TooLong word = ascii "a text has at most 65535 bytes\n"
+troubleText BadTitle word = ascii "a title is written in quotes, as title \"Elm and 3rd\", with at most 60 bytes\n"

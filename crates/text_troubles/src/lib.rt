@@ -49,5 +49,10 @@ pub fn put_trouble(out: &mut [u8], at: usize, why: Trouble, word: &[u8]) -> usiz
         Trouble::TooLarge => text::put_bytes(out, at, b"this number is too large\n"),
         Trouble::Ends => text::put_bytes(out, at, b"the text ends where a value is expected\n"),
         Trouble::TooLong => text::put_bytes(out, at, b"a text has at most 65535 bytes\n"),
+        Trouble::BadTitle => text::put_bytes(
+            out,
+            at,
+            b"a title is written in quotes, as title \"Elm and 3rd\", with at most 60 bytes\n",
+        ),
     }
 }

@@ -22,6 +22,7 @@ pub enum Trouble {
     TooLarge,
     Ends,
     TooLong,
+    BadTitle,
 }
 
 // What a word is as a value: a number of 32 bits, or none, and why.

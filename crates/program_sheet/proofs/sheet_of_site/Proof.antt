@@ -1,35 +1,66 @@
--- `program_sheet::sheet_of_site`. A case for each way that looking for the site can come out.
-use Rattle.program_sheet.specs.Run.{sheetOfSite}
-use Rattle.program_outcome.proofs.Laws.{left-saying}
-use mathlib.Core.Path.{sym, _∙_}
 use borrow.Author.Needs.{needs}
 use Rattle.program_sheet.proofs.sheet_of_site.Statement.{statement}
 use Rattle.program_sheet.proofs.sheet_of_site.Tie as tie
 
-returns : tie.Need-returns
-unfolding sheetOfSite
-returns c =
-    let told = c .before .before .before .before in
-    let read = told .before .before in
-    let is = sym (read .read-site .ensures .0) ∙ told .enum-told .given .1 in
-    rw is (rw (read .read-site .ensures .1, is) at (c .print-sheet .ensures))
+probereturns0 : tie.Need-returns
+probereturns0 c = c .zzz
 
-returns-2 : tie.Need-returns-2
-unfolding sheetOfSite
-returns-2 c =
-    let told = c .before .before .before in
-    let is = sym (told .before .before .read-site .ensures .0) ∙ told .enum-told2 .given .1 in
-    rw (is, c .only-said .ensures) (left-saying (rw (told .enum-told2 .given .1) at (c .before .say-site .ensures)))
+probereturns1 : tie.Need-returns
+probereturns1 c = c .before .zzz
 
-returns-3 : tie.Need-returns-3
-unfolding sheetOfSite
-returns-3 c =
-    let told = c .before .before .before in
-    let is = sym (told .before .before .read-site .ensures .0) ∙ told .enum-told3 .given .1 in
-    rw (is, c .only-said2 .ensures) (left-saying (rw (told .enum-told3 .given .1) at (c .before .say-site2 .ensures)))
+probereturns2 : tie.Need-returns
+probereturns2 c = c .before .before .zzz
 
-pub sheet-of-site-spec : {M : Type 1} → statement M
-sheet-of-site-spec =
-    tie.close
-    (tie.spec (search needs) (search needs) (search needs) (search needs) (search needs) (search needs) (search needs) (search needs)
-    (search needs) returns returns-2 returns-3)
+probereturns3 : tie.Need-returns
+probereturns3 c = c .before .before .before .zzz
+
+probereturns4 : tie.Need-returns
+probereturns4 c = c .before .before .before .before .zzz
+
+probereturns5 : tie.Need-returns
+probereturns5 c = c .before .before .before .before .before .zzz
+
+probereturns6 : tie.Need-returns
+probereturns6 c = c .before .before .before .before .before .before .zzz
+
+probereturns7 : tie.Need-returns
+probereturns7 c = c .before .before .before .before .before .before .before .zzz
+
+probereturns8 : tie.Need-returns
+probereturns8 c = c .before .before .before .before .before .before .before .before .zzz
+
+probereturns-20 : tie.Need-returns-2
+probereturns-20 c = c .zzz
+
+probereturns-21 : tie.Need-returns-2
+probereturns-21 c = c .before .zzz
+
+probereturns-22 : tie.Need-returns-2
+probereturns-22 c = c .before .before .zzz
+
+probereturns-23 : tie.Need-returns-2
+probereturns-23 c = c .before .before .before .zzz
+
+probereturns-24 : tie.Need-returns-2
+probereturns-24 c = c .before .before .before .before .zzz
+
+probereturns-25 : tie.Need-returns-2
+probereturns-25 c = c .before .before .before .before .before .zzz
+
+probereturns-30 : tie.Need-returns-3
+probereturns-30 c = c .zzz
+
+probereturns-31 : tie.Need-returns-3
+probereturns-31 c = c .before .zzz
+
+probereturns-32 : tie.Need-returns-3
+probereturns-32 c = c .before .before .zzz
+
+probereturns-33 : tie.Need-returns-3
+probereturns-33 c = c .before .before .before .zzz
+
+probereturns-34 : tie.Need-returns-3
+probereturns-34 c = c .before .before .before .before .zzz
+
+probereturns-35 : tie.Need-returns-3
+probereturns-35 c = c .before .before .before .before .before .zzz

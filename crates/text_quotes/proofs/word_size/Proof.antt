@@ -1,6 +1,6 @@
 -- `text_quotes::word_size`. The loop's invariant: no byte passed ends the word.
 use Rattle.text.proofs.Laws.{Searched, first-here, first-past, first-none}
-use Rattle.text_scan.specs.Scanning.{endsWord}
+use Rattle.text_titles.specs.Blanks.{endsWord}
 use lib.ListN.{length}
 use native.Mathlib.Omega.{arith}
 use mathlib.Core.Path.{sym, _∙_}

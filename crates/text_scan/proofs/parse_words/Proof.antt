@@ -22,11 +22,11 @@ abbrev μ-loop : tie.MeasureT-loop
 loop-holds : tie.Need-loop-holds Inv-loop μ-loop
 unfolding scanned
 loop-holds c =
-    let start = c .before .before .before .before in (
+    let start = c .before .before .before .before .before in (
       omega arith,
       ap length (start .pre .0) ∙ length-table usually entryCount,
       ap length (start .pre .1) ∙ length-replicate {A = ℕ} entryCount 0,
-      rw (c .stands .ensures, start .pre .0, start .pre .1),
+      rw (c .begin .ensures, c .before .titling-of .ensures, start .pre .0, start .pre .1),
     )
 
 loop-again : tie.Need-loop-again Inv-loop μ-loop
@@ -41,12 +41,12 @@ loop-again c =
 
 same-length : tie.Need-same-length Inv-loop μ-loop
 same-length c =
-    let start = c .before .before .before .before .before .before .before .before .before .before .before .before .before .before in
+    let start = c .before .before .before .before .before .before .before .before .before .before .before .before .before .before .before in
     omega (arith, ap length (start .pre .0) ∙ length-table usually entryCount)
 
 same-length-2 : tie.Need-same-length-2 Inv-loop μ-loop
 same-length-2 c =
-    let start = c .before .before .before .before .before .before .before .before .before .before .before .before .before .before in
+    let start = c .before .before .before .before .before .before .before .before .before .before .before .before .before .before .before in
     omega (arith, ap length (start .pre .1) ∙ length-replicate {A = ℕ} entryCount 0)
 
 returns : tie.Need-returns Inv-loop μ-loop
@@ -58,5 +58,5 @@ returns c =
 pub parse-words-spec : {M : Type 1} → statement M
 parse-words-spec =
     tie.close
-    (tie.spec Inv-loop μ-loop (search needs) loop-holds (search needs) (search needs) (search needs) loop-again
+    (tie.spec Inv-loop μ-loop (search needs) (search needs) loop-holds (search needs) (search needs) (search needs) loop-again
     (search needs) (search needs) same-length same-length-2 returns)

@@ -1,0 +1,17 @@
+-- How long a heading is at most: no public promise says it.
+use Prim.Native.Nat.{ℕ, _+_}
+use Rattle.text.specs.Text.{digitMost}
+use Rattle.text_titles.specs.Titles.{titleMost}
+use Rattle.program_outcome.specs.Outcome.{wordMost}
+
+-- ": " and a title
+abbrev pub titledMost : ℕ
+titledMost = 2 + titleMost
+
+-- a name, ", site " and a number
+abbrev pub siteTitleMost : ℕ
+siteTitleMost = wordMost + 7 + digitMost
+
+-- a name, ": ", a title and the lines' ends: more than what a site's heading takes
+abbrev pub headingMost : ℕ
+headingMost = wordMost + titledMost + 2

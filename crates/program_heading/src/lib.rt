@@ -1,0 +1,123 @@
+// The line over a printed sheet, which tells whose it is.
+ghost use mathlib.Core.Path.{_≡_};
+ghost use Prim.Native.Nat.{_+_, _≤_, _<_};
+ghost use lib.ListN.{length};
+ghost use Rattle.text.specs.Text.{Placed};
+ghost use Rattle.program_outcome.specs.Outcome.{wordMost};
+ghost use Rattle.text_numbers.specs.Numbers.{tooLarge};
+ghost use Rattle.program_heading.specs.Headings.{shownByte, shown, shownName, titled, textHeading, siteTitle, feed, siteHeading};
+ghost use Rattle.program_heading.specs.Working.{titledMost, siteTitleMost, headingMost};
+use program_outcome::WORD_BYTES;
+
+// Room for a heading: a name, ": ", a title and the lines' ends.
+pub const HEADING_BYTES: usize = WORD_BYTES + text_titles::TITLE_MOST + 4;
+
+// Which of a study's sites a page is of, from 0; how many there are; and whether the page follows another.
+pub struct Spot {
+    pub site: u32,
+    pub sites: u32,
+    pub follows: bool,
+}
+
+fn shown_byte(byte: u8) -> u8
+    ensures { λ r. ⌜ r ≡ shownByte byte ⌝ }
+{
+    if text_titles::is_steering(byte) {
+        return b'?';
+    }
+    byte
+}
+
+fn put_shown(out: &mut [u8], at: usize, name: &[u8]) -> usize
+    requires { ⌜ at + length (now name) ≤ length (now out) ⌝ }
+    ensures { λ r. ⌜ Placed (now (out .entry)) at (shown (now (name .entry))) (now (out .exit)) r × (r ≡ at + length (now (name .entry))) ⌝ }
+{
+    let mut i: usize = 0;
+    while i < name.len() {
+        text::put_byte(out, at + i, shown_byte(name[i]));
+        i += 1;
+    }
+    at + i
+}
+
+fn put_name(out: &mut [u8], at: usize, name: &[u8]) -> usize
+    requires { ⌜ at + wordMost ≤ length (now out) ⌝ }
+    ensures { λ r. ⌜ Placed (now (out .entry)) at (shownName (now (name .entry))) (now (out .exit)) r × (r ≤ at + wordMost) ⌝ }
+{
+    put_shown(out, at, program_outcome::front(name, WORD_BYTES))
+}
+
+fn put_titled(out: &mut [u8], at: usize, title: &[u8]) -> usize
+    requires { ⌜ at + titledMost ≤ length (now out) ⌝ }
+    ensures { λ r. ⌜ Placed (now (out .entry)) at (titled (now (title .entry))) (now (out .exit)) r × (r ≤ at + titledMost) ⌝ }
+{
+    if title.len() == 0 {
+        return at;
+    }
+    let parted = text::put_bytes(out, at, b": ");
+    text::put_bytes(
+        out,
+        parted,
+        program_outcome::front(title, text_titles::TITLE_MOST),
+    )
+}
+
+fn put_text_heading(out: &mut [u8], name: &[u8], title: &[u8]) -> usize
+    requires { ⌜ headingMost ≤ length (now out) ⌝ }
+    ensures { λ r. ⌜ Placed (now (out .entry)) 0 (textHeading (now (name .entry)) (now (title .entry))) (now (out .exit)) r × (r ≤ headingMost) ⌝ }
+{
+    let named = put_name(out, 0, name);
+    let told = put_titled(out, named, title);
+    text::put_bytes(out, told, b"\n\n")
+}
+
+fn put_site_title(out: &mut [u8], at: usize, name: &[u8], site: u32) -> usize
+    requires { ⌜ (at + siteTitleMost ≤ length (now out)) × (site + 1 < tooLarge) ⌝ }
+    ensures { λ r. ⌜ Placed (now (out .entry)) at (siteTitle (now (name .entry)) site) (now (out .exit)) r × (r ≤ at + siteTitleMost) ⌝ }
+{
+    let named = put_name(out, at, name);
+    text_phrases::put_numbered(out, named, b", site ", site + 1)
+}
+
+fn put_feed(out: &mut [u8], spot: Spot) -> usize
+    requires { ⌜ 1 ≤ length (now out) ⌝ }
+    ensures { λ r. ⌜ Placed (now (out .entry)) 0 (feed spot) (now (out .exit)) r × (r ≤ 1) ⌝ }
+{
+    if spot.follows {
+        return text::put_byte(out, 0, b'\x0C');
+    }
+    0
+}
+
+fn put_site_heading(out: &mut [u8], name: &[u8], spot: Spot) -> usize
+    requires { ⌜ (headingMost ≤ length (now out)) × (spot .site + 1 < tooLarge) ⌝ }
+    ensures { λ r. ⌜ Placed (now (out .entry)) 0 (siteHeading (now (name .entry)) spot) (now (out .exit)) r × (r ≤ headingMost) ⌝ }
+{
+    let fed = put_feed(out, spot);
+    let told = put_site_title(out, fed, name, spot.site);
+    let counted = text_phrases::put_numbered(out, told, b" of ", spot.sites);
+    text::put_bytes(out, counted, b"\n\n")
+}
+
+// The heading of the sheet of a text: its name, and its title if it has one.
+pub fn head_text(name: &[u8], title: &[u8], heading: &mut [u8; HEADING_BYTES]) -> usize
+    ensures { λ r. ⌜ Placed (now (heading .entry)) 0 (textHeading (now (name .entry)) (now (title .entry))) (now (heading .exit)) r × (r ≤ headingMost) ⌝ }
+{
+    put_text_heading(heading, name, title)
+}
+
+// What a refusal is said of: a site of a study.
+pub fn name_site(name: &[u8], site: u32, title: &mut [u8; HEADING_BYTES]) -> usize
+    requires { ⌜ site + 1 < tooLarge ⌝ }
+    ensures { λ r. ⌜ Placed (now (title .entry)) 0 (siteTitle (now (name .entry)) site) (now (title .exit)) r ⌝ }
+{
+    put_site_title(title, 0, name, site)
+}
+
+// The heading of a site's sheet.
+pub fn head_site(name: &[u8], spot: Spot, heading: &mut [u8; HEADING_BYTES]) -> usize
+    requires { ⌜ spot .site + 1 < tooLarge ⌝ }
+    ensures { λ r. ⌜ Placed (now (heading .entry)) 0 (siteHeading (now (name .entry)) spot) (now (heading .exit)) r × (r ≤ headingMost) ⌝ }
+{
+    put_site_heading(heading, name, spot)
+}
