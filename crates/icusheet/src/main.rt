@@ -41,9 +41,10 @@ fn put_page(input: Input, words: &[u8], area: &[u8; AREA_BYTES], site: u32) {
 // Page after page, where the sheets of all sites are asked for.
 fn put_pages(call: Call, words: &[u8], area: &[u8; AREA_BYTES]) {
     let pages = program_sheet::pages(call, words, area);
+    let input = call.input;
     let mut site: u32 = 0;
     while site < pages {
-        put_page(call.input, words, area, site);
+        put_page(input, words, area, site);
         site += 1;
     }
 }
