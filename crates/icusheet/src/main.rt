@@ -1,8 +1,11 @@
-// Prints the worksheet of a junction: of its text, or of a site of a study file. What is printed and said is the one call's
-// to promise; the rest is input and output.
+// Prints the worksheet of a junction: of its text, of a site of a study file, or of all its sites. What is printed and said is
+// the calls' to promise; the rest is input and output.
 use program_outcome::AREA_BYTES;
 use program_outcome::Call;
 use program_outcome::Input;
+use program_outcome::Lengths;
+use program_outcome::SAID_BYTES;
+use program_sheet::PRINTED_BYTES;
 
 // Room for a file's name and a site.
 const WORDS_BYTES: usize = 2 * program_io::WORD_ROOM;
@@ -15,20 +18,47 @@ fn read(count: usize, words: &[u8], area: &mut [u8; AREA_BYTES]) -> Input {
     Input::Failed
 }
 
-fn print(printed: &[u8; program_sheet::PRINTED_BYTES], size: usize) {
-    program_io::print(b"icusheet", printed, size);
+// Prints and says, and answers whether all was printed.
+fn put_out(lengths: Lengths, printed: &[u8; PRINTED_BYTES], said: &[u8; SAID_BYTES]) -> bool {
+    let is_printed = program_io::print(b"icusheet", printed, lengths.prints);
+    program_io::say(said, lengths.says);
+    is_printed
+}
+
+fn run_once(call: Call, words: &[u8], area: &[u8; AREA_BYTES]) {
+    let mut printed = [0u8; PRINTED_BYTES];
+    let mut said = [0u8; SAID_BYTES];
+    let lengths = program_sheet::run(call, words, area, &mut printed, &mut said);
+    put_out(lengths, &printed, &said);
+}
+
+fn put_page(input: Input, words: &[u8], area: &[u8; AREA_BYTES], site: u32) -> bool {
+    let mut printed = [0u8; PRINTED_BYTES];
+    let mut said = [0u8; SAID_BYTES];
+    let lengths = program_sheet::page(input, words, area, site, &mut printed, &mut said);
+    put_out(lengths, &printed, &said)
+}
+
+// Page after page, where the sheets of all sites are asked for, until one cannot be printed.
+fn put_pages(call: Call, words: &[u8], area: &[u8; AREA_BYTES]) {
+    let pages = program_sheet::pages(call, words, area);
+    let input = call.input;
+    let mut site: u32 = 0;
+    while site < pages {
+        if !put_page(input, words, area, site) {
+            return;
+        }
+        site += 1;
+    }
 }
 
 fn run(words: &[u8]) {
     let mut area = [0u8; AREA_BYTES];
-    let mut printed = [0u8; program_sheet::PRINTED_BYTES];
-    let mut said = [0u8; program_outcome::SAID_BYTES];
     let arguments = os::arg_count();
     let input = read(arguments, words, &mut area);
     let call = Call { arguments, input };
-    let lengths = program_sheet::run(call, words, &area, &mut printed, &mut said);
-    print(&printed, lengths.prints);
-    program_io::say(&said, lengths.says);
+    run_once(call, words, &area);
+    put_pages(call, words, &area);
 }
 
 fn main() {

@@ -1,12 +1,14 @@
 -- Laws of what is sought in a file, a law for each way that it can come out, and of what is left where it is not there.
 use Prim.Native.Nat.{ℕ, _≤_, _<_}
-use mathlib.Core.Path.{_≡_, refl}
+use mathlib.Core.Path.{_≡_, refl, ap}
 use mathlib.Core.Bool.{Bool, true, false}
-use mathlib.Core.List.{List}
+use mathlib.Core.List.{List, []}
+use lib.Dec.{leb}
 use native.Mathlib.Omega.{arith}
-use borrow.Author.Tests.{eq-eqb, le-leb, lt-leb}
+use borrow.Author.Tests.{eq-eqb, le-leb, lt-leb, leb-false}
 use Rattle.answers.specs.Answers.{left-by}
 use Rattle.answers.specs.declared.Refusal.{Refusal}
+use Rattle.answers.specs.declared.Answer.{Answer}
 use Rattle.answers.specs.declared.Answer.the-variants.{Accepted, Refused as No}
 use Rattle.layout.specs.Entries.{entryCount}
 use Rattle.study.specs.Study.{judgement, sitesOf, countOf, siteAnswer, siteEntriesAnswer}
@@ -14,7 +16,7 @@ use Rattle.text.specs.Text.{Placed}
 use Rattle.program_outcome.specs.Outcome.{Outcome, Left}
 use Rattle.program_outcome.specs.Working.{onlySaid}
 use Rattle.program_outcome.proofs.Laws.{left-saying}
-use Rattle.program_site.specs.Site.{siteNamed, sought, soughtText, withSite}
+use Rattle.program_site.specs.Site.{siteNamed, soughtBy, sought, soughtText, withSite}
 use Rattle.program_site.specs.declared.Sought.{Sought}
 use Rattle.program_site.specs.declared.Sought.the-variants.{Site, Missing, Bad}
 
@@ -35,17 +37,44 @@ module _ (file word : List ℕ) where
   unfolding sought
   there good within = rw (good, lt-leb (sitesOf file) (siteNamed word) (rw (counted good) at within))
 
-  -- and the entries of a site that is there are had
-  pub had : (room : ℕ) (new old : List ℕ) → room ≡ entryCount → judgement file ≡ Accepted → siteNamed word < countOf file
-      → left-by (siteEntriesAnswer file (siteNamed word) room) new old ≡ new
-  had room new old sized good within =
-      simp (eq-eqb room entryCount sized, good, lt-leb (sitesOf file) (siteNamed word) (rw (counted good) at within))
+-- a file that has a site is a good one, and the entries of that site are had
+module _ (file : List ℕ) (site : ℕ) (within : site < countOf file) where
+  pub good-file : judgement file ≡ Accepted
+  good-file = by (judgement file) refl
+    where
+      by : (a : Answer) → judgement file ≡ a → judgement file ≡ Accepted
+      by Accepted e = e
+      by (No why place) e = absurd (let none : countOf file ≡ 0 = rw e in omega (arith, none, within))
+
+  pub had : (room : ℕ) (new old : List ℕ) → room ≡ entryCount → left-by (siteEntriesAnswer file site room) new old ≡ new
+  had room new old sized =
+      let here = rw (counted file [] good-file) at within in
+      simp (eq-eqb room entryCount sized, good-file, lt-leb (sitesOf file) site here)
 
 -- where there is no such site, that is said and nothing else is given
 abbrev pub isThere : Sought → Bool
 isThere (Site site) = true
 isThere (Missing sites) = false
 isThere (Bad why place) = false
+
+abbrev siteIn : Sought → ℕ
+siteIn (Site site) = site
+siteIn (Missing sites) = 0
+siteIn (Bad why place) = 0
+
+-- a site that is there is one of those that the file has
+pub site-counted : (file word : List ℕ) (site : ℕ) → sought file word ≡ Site site → site < countOf file
+unfolding sought
+site-counted file word site = by (judgement file) refl (leb (sitesOf file) (siteNamed word)) refl
+  where
+    by : (a : Answer) → judgement file ≡ a → (b : Bool) → leb (sitesOf file) (siteNamed word) ≡ b
+        → soughtBy (judgement file) (sitesOf file) (siteNamed word) ≡ Site site
+        → site < countOf file
+    by Accepted good true e is = absurd (let z = ap isThere (rw (good, e) at is) in let y : _≡_ {A = ℕ} 0 1 = cc in omega arith)
+    by Accepted good false e is =
+        let same = ap siteIn (rw (good, e) at is) in
+        omega (arith, same, leb-false (sitesOf file) (siteNamed word) e, counted file word good)
+    by (No why place) bad b e is = absurd (let z = ap isThere (rw bad at is) in let y : _≡_ {A = ℕ} 0 1 = cc in omega arith)
 
 pub left-unsought : (this : Sought) (name word : List ℕ) (run : ℕ → Outcome) {printed said said′ : List ℕ} {n : ℕ} → isThere this ≡ false
     → Placed said 0 (soughtText this name word) said′ n

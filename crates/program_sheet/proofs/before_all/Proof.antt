@@ -1,27 +1,17 @@
+use Rattle.program_sheet.proofs.Laws.{said-alone}
+use Rattle.program_sheet.specs.Run.{beforeAll}
+use Rattle.program_outcome.proofs.Laws.{left-saying}
+use Rattle.text.specs.Text.{ascii}
 use borrow.Author.Needs.{needs}
 use Rattle.program_sheet.proofs.before_all.Statement.{statement}
 use Rattle.program_sheet.proofs.before_all.Tie as tie
 
-probereturns0 : tie.Need-returns
-probereturns0 c = c .zzz
+returns : tie.Need-returns
+unfolding beforeAll ascii
+returns c =
+    let read = c .before .before .before .read-site in
+    rw (← read .ensures .0, said-alone (read .result) _ _, c .only-said .ensures) (left-saying (c .before .say-site .ensures))
 
-probereturns1 : tie.Need-returns
-probereturns1 c = c .before .zzz
-
-probereturns2 : tie.Need-returns
-probereturns2 c = c .before .before .zzz
-
-probereturns3 : tie.Need-returns
-probereturns3 c = c .before .before .before .zzz
-
-probereturns4 : tie.Need-returns
-probereturns4 c = c .before .before .before .before .zzz
-
-probereturns5 : tie.Need-returns
-probereturns5 c = c .before .before .before .before .before .zzz
-
-probereturns6 : tie.Need-returns
-probereturns6 c = c .before .before .before .before .before .before .zzz
-
-probereturns7 : tie.Need-returns
-probereturns7 c = c .before .before .before .before .before .before .before .zzz
+pub before-all-spec : {M : Type 1} → statement M
+before-all-spec =
+    tie.close (tie.spec (search needs) (search needs) (search needs) (search needs) returns)

@@ -1,36 +1,21 @@
+use Rattle.program_sheet.specs.Run.{pageAt}
+use Rattle.program_outcome.proofs.Laws.{left-printing}
+use Rattle.text.proofs.Laws.{placed-nothing}
 use borrow.Author.Needs.{needs}
 use Rattle.program_sheet.proofs.page.Statement.{statement}
 use Rattle.program_sheet.proofs.page.Tie as tie
 
-probereturns0 : tie.Need-returns
-probereturns0 c = c .zzz
+returns : tie.Need-returns
+unfolding pageAt
+returns c = rw (c .before .enum-told .given .1, c .only-printed .ensures) (left-printing (placed-nothing _ _))
 
-probereturns1 : tie.Need-returns
-probereturns1 c = c .before .zzz
+returns-2 : tie.Need-returns-2
+unfolding pageAt
+returns-2 c =
+    let front = c .before .before .before in
+    let word = front .before .before in
+    rw (word .before .before .input .given .1) (rw (word .word .ensures, front .front .ensures .0) at (c .page-in .ensures))
 
-probereturns2 : tie.Need-returns
-probereturns2 c = c .before .before .zzz
-
-probereturns3 : tie.Need-returns
-probereturns3 c = c .before .before .before .zzz
-
-probereturns-20 : tie.Need-returns-2
-probereturns-20 c = c .zzz
-
-probereturns-21 : tie.Need-returns-2
-probereturns-21 c = c .before .zzz
-
-probereturns-22 : tie.Need-returns-2
-probereturns-22 c = c .before .before .zzz
-
-probereturns-23 : tie.Need-returns-2
-probereturns-23 c = c .before .before .before .zzz
-
-probereturns-24 : tie.Need-returns-2
-probereturns-24 c = c .before .before .before .before .zzz
-
-probereturns-25 : tie.Need-returns-2
-probereturns-25 c = c .before .before .before .before .before .zzz
-
-probereturns-26 : tie.Need-returns-2
-probereturns-26 c = c .before .before .before .before .before .before .zzz
+pub page-spec : {M : Type 1} → statement M
+page-spec =
+    tie.close (tie.spec (search needs) (search needs) (search needs) returns (search needs) (search needs) (search needs) returns-2)

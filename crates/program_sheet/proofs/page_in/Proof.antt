@@ -1,42 +1,34 @@
+-- `program_sheet::page_in`. No such site, and the page of a site that there is.
+use Rattle.program_page.specs.Pages.{sitePage}
+use Rattle.program_site.proofs.Laws.{had}
+use Rattle.program_outcome.proofs.Laws.{left-printing}
+use Rattle.study.specs.Study.{siteEntries}
+use Rattle.text.proofs.Laws.{placed-nothing}
+use borrow.Author.Tests.{le-leb, lt-leb}
+use native.Mathlib.Omega.{arith}
+use lib.ListN.{replicate}
+use mathlib.Core.Path.{refl}
+use Rattle.layout.specs.Entries.{entryCount}
 use borrow.Author.Needs.{needs}
 use Rattle.program_sheet.proofs.page_in.Statement.{statement}
 use Rattle.program_sheet.proofs.page_in.Tie as tie
 
-probereturns0 : tie.Need-returns
-probereturns0 c = c .zzz
+returns : tie.Need-returns
+returns c =
+    let past = rw (c .before .before .count .ensures .0) at (c .before .if1 .taken) in
+    rw (le-leb _ _ past, c .only-printed .ensures) (left-printing (placed-nothing _ _))
 
-probereturns1 : tie.Need-returns
-probereturns1 c = c .before .zzz
+returns-2 : tie.Need-returns-2
+returns-2 c =
+    let got = c .before .before .before .before .before in
+    let test = got .before .before in
+    let count = test .before in
+    let args = count .before .before .before .args in
+    let within = rw (count .count .ensures .0) at (test .if1 .left) in
+    let file = args .file .now in
+    let entries = had file (args .site) within entryCount (siteEntries file (args .site)) (replicate entryCount 0) refl in
+    rw (lt-leb _ _ within) (rw (count .count .ensures .0, got .site-entries .ensures .1, entries) at (c .print-site .ensures))
 
-probereturns2 : tie.Need-returns
-probereturns2 c = c .before .before .zzz
-
-probereturns3 : tie.Need-returns
-probereturns3 c = c .before .before .before .zzz
-
-probereturns-20 : tie.Need-returns-2
-probereturns-20 c = c .zzz
-
-probereturns-21 : tie.Need-returns-2
-probereturns-21 c = c .before .zzz
-
-probereturns-22 : tie.Need-returns-2
-probereturns-22 c = c .before .before .zzz
-
-probereturns-23 : tie.Need-returns-2
-probereturns-23 c = c .before .before .before .zzz
-
-probereturns-24 : tie.Need-returns-2
-probereturns-24 c = c .before .before .before .before .zzz
-
-probereturns-25 : tie.Need-returns-2
-probereturns-25 c = c .before .before .before .before .before .zzz
-
-probereturns-26 : tie.Need-returns-2
-probereturns-26 c = c .before .before .before .before .before .before .zzz
-
-probereturns-27 : tie.Need-returns-2
-probereturns-27 c = c .before .before .before .before .before .before .before .zzz
-
-probereturns-28 : tie.Need-returns-2
-probereturns-28 c = c .before .before .before .before .before .before .before .before .zzz
+pub page-in-spec : {M : Type 1} → statement M
+page-in-spec =
+    tie.close (tie.spec (search needs) (search needs) returns (search needs) (search needs) (search needs) returns-2)

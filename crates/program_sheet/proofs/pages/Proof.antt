@@ -1,72 +1,40 @@
+-- `program_sheet::pages`. Another number of arguments, a file that was not read, all sites, and one.
+use Rattle.program_sheet.specs.Run.{pagesOf}
+use Rattle.text.specs.Text.{ascii}
+use mathlib.Core.Path.{sym, _∙_}
+use borrow.Author.Tests.{eq-eqb, ne-eqb}
 use borrow.Author.Needs.{needs}
 use Rattle.program_sheet.proofs.pages.Statement.{statement}
 use Rattle.program_sheet.proofs.pages.Tie as tie
 
-probereturns0 : tie.Need-returns
-probereturns0 c = c .zzz
+returns : tie.Need-returns
+unfolding pagesOf
+returns c = rw (ne-eqb _ _ (c .if1 .taken))
 
-probereturns1 : tie.Need-returns
-probereturns1 c = c .before .zzz
+returns-2 : tie.Need-returns-2
+unfolding pagesOf
+returns-2 c = rw (eq-eqb _ _ (c .before .before .if1 .left), c .enum-told .given .1)
 
-probereturns-20 : tie.Need-returns-2
-probereturns-20 c = c .zzz
+returns-3 : tie.Need-returns-3
+unfolding pagesOf ascii
+returns-3 c =
+    let front = c .before in
+    let test = front .before .before in
+    let same = test .before in
+    let word = same .before .before in
+    let input = word .before .before in
+    let all = rw (word .word .ensures) at (sym (same .is-same .ensures) ∙ test .if2 .taken) in
+    rw (eq-eqb _ _ (input .before .before .if1 .left), input .input .given .1, all) (rw (front .front .ensures .0) at (c .count .ensures .0))
 
-probereturns-21 : tie.Need-returns-2
-probereturns-21 c = c .before .zzz
+returns-4 : tie.Need-returns-4
+unfolding pagesOf ascii
+returns-4 c =
+    let same = c .before in
+    let word = same .before .before in
+    let input = word .before .before in
+    let one = rw (word .word .ensures) at (sym (same .is-same .ensures) ∙ c .if2 .left) in
+    rw (eq-eqb _ _ (input .before .before .if1 .left), input .input .given .1, one)
 
-probereturns-22 : tie.Need-returns-2
-probereturns-22 c = c .before .before .zzz
-
-probereturns-23 : tie.Need-returns-2
-probereturns-23 c = c .before .before .before .zzz
-
-probereturns-30 : tie.Need-returns-3
-probereturns-30 c = c .zzz
-
-probereturns-31 : tie.Need-returns-3
-probereturns-31 c = c .before .zzz
-
-probereturns-32 : tie.Need-returns-3
-probereturns-32 c = c .before .before .zzz
-
-probereturns-33 : tie.Need-returns-3
-probereturns-33 c = c .before .before .before .zzz
-
-probereturns-34 : tie.Need-returns-3
-probereturns-34 c = c .before .before .before .before .zzz
-
-probereturns-35 : tie.Need-returns-3
-probereturns-35 c = c .before .before .before .before .before .zzz
-
-probereturns-36 : tie.Need-returns-3
-probereturns-36 c = c .before .before .before .before .before .before .zzz
-
-probereturns-37 : tie.Need-returns-3
-probereturns-37 c = c .before .before .before .before .before .before .before .zzz
-
-probereturns-38 : tie.Need-returns-3
-probereturns-38 c = c .before .before .before .before .before .before .before .before .zzz
-
-probereturns-40 : tie.Need-returns-4
-probereturns-40 c = c .zzz
-
-probereturns-41 : tie.Need-returns-4
-probereturns-41 c = c .before .zzz
-
-probereturns-42 : tie.Need-returns-4
-probereturns-42 c = c .before .before .zzz
-
-probereturns-43 : tie.Need-returns-4
-probereturns-43 c = c .before .before .before .zzz
-
-probereturns-44 : tie.Need-returns-4
-probereturns-44 c = c .before .before .before .before .zzz
-
-probereturns-45 : tie.Need-returns-4
-probereturns-45 c = c .before .before .before .before .before .zzz
-
-probereturns-46 : tie.Need-returns-4
-probereturns-46 c = c .before .before .before .before .before .before .zzz
-
-probereturns-47 : tie.Need-returns-4
-probereturns-47 c = c .before .before .before .before .before .before .before .zzz
+pub pages-spec : {M : Type 1} → statement M
+pages-spec =
+    tie.close (tie.spec returns (search needs) (search needs) returns-2 (search needs) (search needs) (search needs) (search needs) (search needs) returns-3 returns-4)

@@ -1,12 +1,13 @@
+use Rattle.program_sheet.specs.Run.{sheetUse}
+use Rattle.text.specs.Text.{ascii}
 use borrow.Author.Needs.{needs}
 use Rattle.program_sheet.proofs.put_use.Statement.{statement}
 use Rattle.program_sheet.proofs.put_use.Tie as tie
 
-probereturns0 : tie.Need-returns
-probereturns0 c = c .zzz
+returns : tie.Need-returns
+unfolding sheetUse ascii
+returns c = c .before .before .put-bytes .ensures
 
-probereturns1 : tie.Need-returns
-probereturns1 c = c .before .zzz
-
-probereturns2 : tie.Need-returns
-probereturns2 c = c .before .before .zzz
+pub put-use-spec : {M : Type 1} → statement M
+put-use-spec =
+    tie.close (tie.spec (search needs) (search needs) (search needs) returns)

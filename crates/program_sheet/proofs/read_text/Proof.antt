@@ -1,33 +1,29 @@
+-- `program_sheet::read_text`. A case for each way that reading can come out.
+use Rattle.program_outcome.proofs.Laws.{left-saying}
+use mathlib.Core.Path.{sym, _∙_}
 use borrow.Author.Needs.{needs}
 use Rattle.program_sheet.proofs.read_text.Statement.{statement}
 use Rattle.program_sheet.proofs.read_text.Tie as tie
 
-probereturns0 : tie.Need-returns
-probereturns0 c = c .zzz
+returns : tie.Need-returns
+returns c =
+    let told = c .before .before .before .before in
+    let read = told .before .before in
+    let is = sym (read .read .ensures .0) ∙ told .enum-told .given .1 in
+    rw is (rw (read .read .ensures .1, is) at (c .print-text .ensures))
 
-probereturns1 : tie.Need-returns
-probereturns1 c = c .before .zzz
+returns-2 : tie.Need-returns-2
+returns-2 c =
+    let told = c .before .before .before in
+    let is = sym (told .before .before .read .ensures .0) ∙ told .enum-told2 .given .1 in
+    rw (is, c .only-said .ensures) (left-saying (rw (told .enum-told2 .given .1) at (c .before .say-reading .ensures)))
 
-probereturns2 : tie.Need-returns
-probereturns2 c = c .before .before .zzz
+returns-3 : tie.Need-returns-3
+returns-3 c =
+    let told = c .before .before .before in
+    let is = sym (told .before .before .read .ensures .0) ∙ told .enum-told3 .given .1 in
+    rw (is, c .only-said2 .ensures) (left-saying (rw (told .enum-told3 .given .1) at (c .before .say-reading2 .ensures)))
 
-probereturns3 : tie.Need-returns
-probereturns3 c = c .before .before .before .zzz
-
-probereturns4 : tie.Need-returns
-probereturns4 c = c .before .before .before .before .zzz
-
-probereturns-20 : tie.Need-returns-2
-probereturns-20 c = c .zzz
-
-probereturns-21 : tie.Need-returns-2
-probereturns-21 c = c .before .zzz
-
-probereturns-22 : tie.Need-returns-2
-probereturns-22 c = c .before .before .zzz
-
-probereturns-23 : tie.Need-returns-2
-probereturns-23 c = c .before .before .before .zzz
-
-probereturns-24 : tie.Need-returns-2
-probereturns-24 c = c .before .before .before .before .zzz
+pub read-text-spec : {M : Type 1} → statement M
+read-text-spec =
+    tie.close (tie.spec (search needs) (search needs) (search needs) (search needs) (search needs) (search needs) (search needs) (search needs) (search needs) returns returns-2 returns-3)

@@ -1,66 +1,35 @@
+-- `program_sheet::run`. How it is called, its version, and its work.
+use Rattle.program_sheet.specs.Run.{sheetRun}
+use Rattle.program_outcome.proofs.Laws.{left-printing}
+use mathlib.Core.Path.{sym, _∙_}
 use borrow.Author.Needs.{needs}
 use Rattle.program_sheet.proofs.run.Statement.{statement}
 use Rattle.program_sheet.proofs.run.Tie as tie
 
-probereturns0 : tie.Need-returns
-probereturns0 c = c .zzz
+returns : tie.Need-returns
+unfolding sheetRun
+returns c =
+    let told = c .before .before .before in
+    let wish = told .before .before in
+    let is = rw (wish .before .word .ensures) at (sym (wish .wish-of .ensures) ∙ told .enum-told .given .1) in
+    rw (is, c .only-printed .ensures) (left-printing (c .before .put-use .ensures))
 
-probereturns1 : tie.Need-returns
-probereturns1 c = c .before .zzz
+returns-2 : tie.Need-returns-2
+unfolding sheetRun
+returns-2 c =
+    let told = c .before .before .before in
+    let wish = told .before .before in
+    let is = rw (wish .before .word .ensures) at (sym (wish .wish-of .ensures) ∙ told .enum-told2 .given .1) in
+    rw (is, c .only-printed2 .ensures) (left-printing (c .before .put-version .ensures))
 
-probereturns2 : tie.Need-returns
-probereturns2 c = c .before .before .zzz
+returns-3 : tie.Need-returns-3
+unfolding sheetRun
+returns-3 c =
+    let told = c .before .before .before in
+    let wish = told .before .before in
+    let is = rw (wish .before .word .ensures) at (sym (wish .wish-of .ensures) ∙ told .enum-told3 .given .1) in
+    rw is (c .work .ensures)
 
-probereturns3 : tie.Need-returns
-probereturns3 c = c .before .before .before .zzz
-
-probereturns4 : tie.Need-returns
-probereturns4 c = c .before .before .before .before .zzz
-
-probereturns5 : tie.Need-returns
-probereturns5 c = c .before .before .before .before .before .zzz
-
-probereturns6 : tie.Need-returns
-probereturns6 c = c .before .before .before .before .before .before .zzz
-
-probereturns-20 : tie.Need-returns-2
-probereturns-20 c = c .zzz
-
-probereturns-21 : tie.Need-returns-2
-probereturns-21 c = c .before .zzz
-
-probereturns-22 : tie.Need-returns-2
-probereturns-22 c = c .before .before .zzz
-
-probereturns-23 : tie.Need-returns-2
-probereturns-23 c = c .before .before .before .zzz
-
-probereturns-24 : tie.Need-returns-2
-probereturns-24 c = c .before .before .before .before .zzz
-
-probereturns-25 : tie.Need-returns-2
-probereturns-25 c = c .before .before .before .before .before .zzz
-
-probereturns-26 : tie.Need-returns-2
-probereturns-26 c = c .before .before .before .before .before .before .zzz
-
-probereturns-30 : tie.Need-returns-3
-probereturns-30 c = c .zzz
-
-probereturns-31 : tie.Need-returns-3
-probereturns-31 c = c .before .zzz
-
-probereturns-32 : tie.Need-returns-3
-probereturns-32 c = c .before .before .zzz
-
-probereturns-33 : tie.Need-returns-3
-probereturns-33 c = c .before .before .before .zzz
-
-probereturns-34 : tie.Need-returns-3
-probereturns-34 c = c .before .before .before .before .zzz
-
-probereturns-35 : tie.Need-returns-3
-probereturns-35 c = c .before .before .before .before .before .zzz
-
-probereturns-36 : tie.Need-returns-3
-probereturns-36 c = c .before .before .before .before .before .before .zzz
+pub run-spec : {M : Type 1} → statement M
+run-spec =
+    tie.close (tie.spec (search needs) (search needs) (search needs) (search needs) (search needs) (search needs) (search needs) (search needs) (search needs) (search needs) returns returns-2 returns-3)

@@ -1,78 +1,34 @@
+-- `program_sheet::sheet_of_file`. A text; a study and the word `all`; a study and a site.
+use Rattle.text.specs.Text.{ascii}
+use mathlib.Core.Path.{sym, _∙_}
+use borrow.Author.Tests.{eq-eqb, ne-eqb}
 use borrow.Author.Needs.{needs}
 use Rattle.program_sheet.proofs.sheet_of_file.Statement.{statement}
 use Rattle.program_sheet.proofs.sheet_of_file.Tie as tie
 
-probereturns0 : tie.Need-returns
-probereturns0 c = c .zzz
+returns : tie.Need-returns
+returns c =
+    let test = c .before .before .before in
+    rw (eq-eqb _ _ (test .if1 .taken)) (rw (test .before .word .ensures) at (c .sheet-of-text .ensures))
 
-probereturns1 : tie.Need-returns
-probereturns1 c = c .before .zzz
+returns-2 : tie.Need-returns-2
+unfolding ascii
+returns-2 c =
+    let test = c .before .before .before in
+    let word = test .before .before .before in
+    let first = word .before in
+    let all = rw (word .word2 .ensures) at (sym (test .before .is-same .ensures) ∙ test .if2 .taken) in
+    rw (ne-eqb _ _ (first .if1 .left), all) (rw (first .before .word .ensures, word .word2 .ensures) at (c .before-all .ensures))
 
-probereturns2 : tie.Need-returns
-probereturns2 c = c .before .before .zzz
+returns-3 : tie.Need-returns-3
+unfolding ascii
+returns-3 c =
+    let test = c .before .before .before in
+    let word = test .before .before .before in
+    let first = word .before in
+    let one = rw (word .word2 .ensures) at (sym (test .before .is-same .ensures) ∙ test .if2 .left) in
+    rw (ne-eqb _ _ (first .if1 .left), one) (rw (first .before .word .ensures, word .word2 .ensures) at (c .sheet-of-site .ensures))
 
-probereturns3 : tie.Need-returns
-probereturns3 c = c .before .before .before .zzz
-
-probereturns4 : tie.Need-returns
-probereturns4 c = c .before .before .before .before .zzz
-
-probereturns5 : tie.Need-returns
-probereturns5 c = c .before .before .before .before .before .zzz
-
-probereturns6 : tie.Need-returns
-probereturns6 c = c .before .before .before .before .before .before .zzz
-
-probereturns-20 : tie.Need-returns-2
-probereturns-20 c = c .zzz
-
-probereturns-21 : tie.Need-returns-2
-probereturns-21 c = c .before .zzz
-
-probereturns-22 : tie.Need-returns-2
-probereturns-22 c = c .before .before .zzz
-
-probereturns-23 : tie.Need-returns-2
-probereturns-23 c = c .before .before .before .zzz
-
-probereturns-24 : tie.Need-returns-2
-probereturns-24 c = c .before .before .before .before .zzz
-
-probereturns-25 : tie.Need-returns-2
-probereturns-25 c = c .before .before .before .before .before .zzz
-
-probereturns-26 : tie.Need-returns-2
-probereturns-26 c = c .before .before .before .before .before .before .zzz
-
-probereturns-27 : tie.Need-returns-2
-probereturns-27 c = c .before .before .before .before .before .before .before .zzz
-
-probereturns-28 : tie.Need-returns-2
-probereturns-28 c = c .before .before .before .before .before .before .before .before .zzz
-
-probereturns-30 : tie.Need-returns-3
-probereturns-30 c = c .zzz
-
-probereturns-31 : tie.Need-returns-3
-probereturns-31 c = c .before .zzz
-
-probereturns-32 : tie.Need-returns-3
-probereturns-32 c = c .before .before .zzz
-
-probereturns-33 : tie.Need-returns-3
-probereturns-33 c = c .before .before .before .zzz
-
-probereturns-34 : tie.Need-returns-3
-probereturns-34 c = c .before .before .before .before .zzz
-
-probereturns-35 : tie.Need-returns-3
-probereturns-35 c = c .before .before .before .before .before .zzz
-
-probereturns-36 : tie.Need-returns-3
-probereturns-36 c = c .before .before .before .before .before .before .zzz
-
-probereturns-37 : tie.Need-returns-3
-probereturns-37 c = c .before .before .before .before .before .before .before .zzz
-
-probereturns-38 : tie.Need-returns-3
-probereturns-38 c = c .before .before .before .before .before .before .before .before .zzz
+pub sheet-of-file-spec : {M : Type 1} → statement M
+sheet-of-file-spec =
+    tie.close (tie.spec (search needs) (search needs) returns (search needs) (search needs) (search needs) (search needs) returns-2 (search needs) returns-3)

@@ -1,66 +1,46 @@
+-- `program_sheet::sheet_of_site`. A case for each way that looking for the site can come out.
+use Rattle.program_sheet.specs.Run.{sheetOfSite}
+use Rattle.program_site.proofs.Laws.{left-unsought, site-counted}
+use mathlib.Core.Path.{refl, sym, _∙_}
+use native.Mathlib.Omega.{arith}
 use borrow.Author.Needs.{needs}
 use Rattle.program_sheet.proofs.sheet_of_site.Statement.{statement}
 use Rattle.program_sheet.proofs.sheet_of_site.Tie as tie
 
-probereturns0 : tie.Need-returns
-probereturns0 c = c .zzz
+print-site-requires : tie.Need-print-site-requires
+print-site-requires c κs =
+    let told = c .before .before .before .before in
+    let count = told .before .before .count .ensures in
+    let read = told .before .before .before in
+    let args = read .before .before .before .before .before .args in
+    let is = sym (read .read-site .ensures .0) ∙ told .sought .given .1 in
+    omega (arith, site-counted (args .file .now) (args .word .now) _ is, count .0, count .1)
 
-probereturns1 : tie.Need-returns
-probereturns1 c = c .before .zzz
+returns : tie.Need-returns
+unfolding sheetOfSite
+returns c =
+    let told = c .before .before .before .before .before in
+    let count = told .before .before in
+    let read = count .before in
+    let is = sym (read .read-site .ensures .0) ∙ told .sought .given .1 in
+    rw is (rw (count .count .ensures .0, read .read-site .ensures .1, is) at (c .print-site .ensures))
 
-probereturns2 : tie.Need-returns
-probereturns2 c = c .before .before .zzz
+returns-2 : tie.Need-returns-2
+unfolding sheetOfSite
+returns-2 c =
+    let told = c .before .before .before in
+    let read = told .before .before .before in
+    rw (← read .read-site .ensures .0, c .only-said .ensures)
+    (left-unsought (read .read-site .result) _ _ _ (rw (told .enum-told .given .1) refl) (c .before .say-site .ensures))
 
-probereturns3 : tie.Need-returns
-probereturns3 c = c .before .before .before .zzz
+returns-3 : tie.Need-returns-3
+unfolding sheetOfSite
+returns-3 c =
+    let told = c .before .before .before in
+    let read = told .before .before .before in
+    rw (← read .read-site .ensures .0, c .only-said2 .ensures)
+    (left-unsought (read .read-site .result) _ _ _ (rw (told .enum-told2 .given .1) refl) (c .before .say-site2 .ensures))
 
-probereturns4 : tie.Need-returns
-probereturns4 c = c .before .before .before .before .zzz
-
-probereturns5 : tie.Need-returns
-probereturns5 c = c .before .before .before .before .before .zzz
-
-probereturns6 : tie.Need-returns
-probereturns6 c = c .before .before .before .before .before .before .zzz
-
-probereturns7 : tie.Need-returns
-probereturns7 c = c .before .before .before .before .before .before .before .zzz
-
-probereturns8 : tie.Need-returns
-probereturns8 c = c .before .before .before .before .before .before .before .before .zzz
-
-probereturns-20 : tie.Need-returns-2
-probereturns-20 c = c .zzz
-
-probereturns-21 : tie.Need-returns-2
-probereturns-21 c = c .before .zzz
-
-probereturns-22 : tie.Need-returns-2
-probereturns-22 c = c .before .before .zzz
-
-probereturns-23 : tie.Need-returns-2
-probereturns-23 c = c .before .before .before .zzz
-
-probereturns-24 : tie.Need-returns-2
-probereturns-24 c = c .before .before .before .before .zzz
-
-probereturns-25 : tie.Need-returns-2
-probereturns-25 c = c .before .before .before .before .before .zzz
-
-probereturns-30 : tie.Need-returns-3
-probereturns-30 c = c .zzz
-
-probereturns-31 : tie.Need-returns-3
-probereturns-31 c = c .before .zzz
-
-probereturns-32 : tie.Need-returns-3
-probereturns-32 c = c .before .before .zzz
-
-probereturns-33 : tie.Need-returns-3
-probereturns-33 c = c .before .before .before .zzz
-
-probereturns-34 : tie.Need-returns-3
-probereturns-34 c = c .before .before .before .before .zzz
-
-probereturns-35 : tie.Need-returns-3
-probereturns-35 c = c .before .before .before .before .before .zzz
+pub sheet-of-site-spec : {M : Type 1} → statement M
+sheet-of-site-spec =
+    tie.close (tie.spec (search needs) (search needs) (search needs) print-site-requires (search needs) (search needs) (search needs) (search needs) (search needs) (search needs) returns returns-2 returns-3)

@@ -1,39 +1,25 @@
+-- `program_sheet::sheet_of_text`. A study file, and what may be a text.
+use Rattle.program_sheet.specs.Run.{sheetOfText}
+use Rattle.program_outcome.proofs.Laws.{left-saying}
+use mathlib.Core.Path.{sym, _∙_}
 use borrow.Author.Needs.{needs}
 use Rattle.program_sheet.proofs.sheet_of_text.Statement.{statement}
 use Rattle.program_sheet.proofs.sheet_of_text.Tie as tie
 
-probereturns0 : tie.Need-returns
-probereturns0 c = c .zzz
+returns : tie.Need-returns
+unfolding sheetOfText
+returns c =
+    let told = c .before .before .before in
+    let good = sym (told .before .before .check .ensures) ∙ told .enum-told .given .1 in
+    rw (good, c .only-said .ensures) (left-saying (c .before .say .ensures))
 
-probereturns1 : tie.Need-returns
-probereturns1 c = c .before .zzz
+returns-2 : tie.Need-returns-2
+unfolding sheetOfText
+returns-2 c =
+    let told = c .before .before .before in
+    let other = sym (told .before .before .check .ensures) ∙ told .enum-told2 .given .1 in
+    rw other (c .read-text .ensures)
 
-probereturns2 : tie.Need-returns
-probereturns2 c = c .before .before .zzz
-
-probereturns3 : tie.Need-returns
-probereturns3 c = c .before .before .before .zzz
-
-probereturns4 : tie.Need-returns
-probereturns4 c = c .before .before .before .before .zzz
-
-probereturns5 : tie.Need-returns
-probereturns5 c = c .before .before .before .before .before .zzz
-
-probereturns-20 : tie.Need-returns-2
-probereturns-20 c = c .zzz
-
-probereturns-21 : tie.Need-returns-2
-probereturns-21 c = c .before .zzz
-
-probereturns-22 : tie.Need-returns-2
-probereturns-22 c = c .before .before .zzz
-
-probereturns-23 : tie.Need-returns-2
-probereturns-23 c = c .before .before .before .zzz
-
-probereturns-24 : tie.Need-returns-2
-probereturns-24 c = c .before .before .before .before .zzz
-
-probereturns-25 : tie.Need-returns-2
-probereturns-25 c = c .before .before .before .before .before .zzz
+pub sheet-of-text-spec : {M : Type 1} → statement M
+sheet-of-text-spec =
+    tie.close (tie.spec (search needs) (search needs) (search needs) (search needs) returns (search needs) (search needs) returns-2)

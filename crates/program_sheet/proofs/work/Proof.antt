@@ -1,66 +1,33 @@
+-- `program_sheet::work`. A wrong number of arguments, a file that was not read, and the file.
+use Rattle.program_outcome.proofs.Laws.{left-saying}
+use mathlib.Core.Path.{sym, _∙_}
+use borrow.Author.Tests.{not-true, not-false}
 use borrow.Author.Needs.{needs}
 use Rattle.program_sheet.proofs.work.Statement.{statement}
 use Rattle.program_sheet.proofs.work.Tie as tie
 
-probereturns0 : tie.Need-returns
-probereturns0 c = c .zzz
+returns : tie.Need-returns
+returns c =
+    let test = c .before .before .before in
+    let wrong = sym (test .before .takes .ensures) ∙ not-true _ (test .if1 .taken) in
+    rw (wrong, c .only-said .ensures) (left-saying (c .before .put-use .ensures))
 
-probereturns1 : tie.Need-returns
-probereturns1 c = c .before .zzz
+returns-2 : tie.Need-returns-2
+returns-2 c =
+    let word = c .before .before .before in
+    let told = word .before in
+    let test = told .before .before in
+    let right = sym (test .before .takes .ensures) ∙ not-false _ (test .if1 .left) in
+    rw (right, told .enum-told .given .1, c .only-said2 .ensures) (left-saying (rw (word .word .ensures) at (c .before .say .ensures)))
 
-probereturns2 : tie.Need-returns
-probereturns2 c = c .before .before .zzz
+returns-3 : tie.Need-returns-3
+returns-3 c =
+    let front = c .before .before .before in
+    let input = front .before .before .before in
+    let test = input .before .before in
+    let right = sym (test .before .takes .ensures) ∙ not-false _ (test .if1 .left) in
+    rw (right, input .input .given .1) (rw (front .front .ensures .0) at (c .sheet-of-file .ensures))
 
-probereturns3 : tie.Need-returns
-probereturns3 c = c .before .before .before .zzz
-
-probereturns4 : tie.Need-returns
-probereturns4 c = c .before .before .before .before .zzz
-
-probereturns5 : tie.Need-returns
-probereturns5 c = c .before .before .before .before .before .zzz
-
-probereturns-20 : tie.Need-returns-2
-probereturns-20 c = c .zzz
-
-probereturns-21 : tie.Need-returns-2
-probereturns-21 c = c .before .zzz
-
-probereturns-22 : tie.Need-returns-2
-probereturns-22 c = c .before .before .zzz
-
-probereturns-23 : tie.Need-returns-2
-probereturns-23 c = c .before .before .before .zzz
-
-probereturns-24 : tie.Need-returns-2
-probereturns-24 c = c .before .before .before .before .zzz
-
-probereturns-25 : tie.Need-returns-2
-probereturns-25 c = c .before .before .before .before .before .zzz
-
-probereturns-26 : tie.Need-returns-2
-probereturns-26 c = c .before .before .before .before .before .before .zzz
-
-probereturns-30 : tie.Need-returns-3
-probereturns-30 c = c .zzz
-
-probereturns-31 : tie.Need-returns-3
-probereturns-31 c = c .before .zzz
-
-probereturns-32 : tie.Need-returns-3
-probereturns-32 c = c .before .before .zzz
-
-probereturns-33 : tie.Need-returns-3
-probereturns-33 c = c .before .before .before .zzz
-
-probereturns-34 : tie.Need-returns-3
-probereturns-34 c = c .before .before .before .before .zzz
-
-probereturns-35 : tie.Need-returns-3
-probereturns-35 c = c .before .before .before .before .before .zzz
-
-probereturns-36 : tie.Need-returns-3
-probereturns-36 c = c .before .before .before .before .before .before .zzz
-
-probereturns-37 : tie.Need-returns-3
-probereturns-37 c = c .before .before .before .before .before .before .before .zzz
+pub work-spec : {M : Type 1} → statement M
+work-spec =
+    tie.close (tie.spec (search needs) (search needs) (search needs) returns (search needs) (search needs) (search needs) (search needs) (search needs) returns-2 (search needs) (search needs) returns-3)

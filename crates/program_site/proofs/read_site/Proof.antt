@@ -42,7 +42,7 @@ returns-3 c =
     let is = there (args .file .now) (args .word .now) good within in
     let old = args .entries .now in
     let new = siteEntries (args .file .now) (siteNamed (args .word .now)) in
-    let entries = had (args .file .now) (args .word .now) (length old) new old (omega arith) good within in
+    let entries = had (args .file .now) (siteNamed (args .word .now)) within (length old) new old (omega arith) in
     (rw (is, named), rw is (rw (named, entries) at (c .site-entries .ensures .1)))
 
 pub read-site-spec : {M : Type 1} → statement M

@@ -1,0 +1,15 @@
+use Prim.Native.Nat.{_-_, _≤_}
+use borrow.Author.Needs.{needs}
+use Rattle.icusheet.proofs.put_pages.Statement.{statement}
+use Rattle.icusheet.proofs.put_pages.Tie as tie
+
+abbrev Inv-loop : tie.InvT-loop
+Inv-loop words area pages input site₀ site = site ≤ pages
+
+abbrev μ-loop : tie.MeasureT-loop
+μ-loop words area pages input site₀ site = pages - site
+
+pub put-pages-spec : {M : Type 1} → statement M
+put-pages-spec =
+    tie.close
+    (tie.spec Inv-loop μ-loop (search needs) (search needs) (search needs) (search needs) (search needs) (search needs) (search needs))
