@@ -137,7 +137,8 @@ fn print_changes(
     printed: &mut [u8; PRINTED_BYTES],
 ) -> usize
     requires { ⌜ judged (now changed) ≡ Accepted ⌝ }
-    ensures { λ r. ⌜ Placed (now (printed .entry)) 0 (changeText (sheetBefore (now (entries .entry))) (sheet (now (changed .entry)))) (now (printed .exit)) r ⌝ }
+    ensures { λ r. ⌜ Placed (now (printed .entry)) 0
+        (changeText (sheetBefore (now (entries .entry))) (sheet (now (changed .entry)))) (now (printed .exit)) r ⌝ }
 {
     let mut before = [0u32; CELLS];
     let mut after = [0u32; CELLS];
