@@ -38,7 +38,7 @@ PUBLIC = {
     "program_outcome": ["front", "say"],
     "program_words": ["word"],
     "program_sheet": ["takes", "run"],
-    "program_amend": ["takes", "run"],
+    "program_amend": ["takes", "new_place", "run"],
     "program_study": ["job_of", "texts_in", "tell", "show"],
     "program_make": ["add", "make"],
     "program_list": ["takes", "is_named", "run"],

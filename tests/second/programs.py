@@ -288,7 +288,7 @@ def samples(b):
     # the sample study's last site is refused: a cycle of 29 s
     with open(os.path.join(os.path.dirname(SAMPLES), "study.icus"), "rb") as f:
         data = f.read()
-    sites = [list(icu2003.study_site(data, number)) for number in range(11)]
+    sites = [icu2003.block_entries(icu2003.study_site(data, number)) for number in range(11)]
     b.same("a refused site", icu2003.judge(sites[10]), (3, 80))
     b.same("all eleven", b.run("icusheet", b.put("eleven.icus", data), "all"), all_pages(b.path("eleven.icus"), sites))
     mended = sites[10][:80] + [120]

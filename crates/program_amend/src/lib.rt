@@ -3,7 +3,7 @@ ghost use mathlib.Core.Path.{_≡_};
 ghost use mathlib.Core.Bool.{true, cond, _&&_};
 ghost use mathlib.Core.List.{[]};
 ghost use Prim.Native.Nat.{_+_, _≤_};
-ghost use lib.ListN.{length, take};
+ghost use lib.ListN.{length};
 ghost use Rattle.answers.specs.Answers.{left-by};
 ghost use Rattle.answers.specs.declared.Answer.the-variants.{Accepted};
 ghost use Rattle.entries.specs.Judging.{judged};
@@ -137,7 +137,8 @@ fn print_changes(
     printed: &mut [u8; PRINTED_BYTES],
 ) -> usize
     requires { ⌜ judged (now changed) ≡ Accepted ⌝ }
-    ensures { λ r. ⌜ Placed (now (printed .entry)) 0 (changeText (sheetBefore (now (entries .entry))) (sheet (now (changed .entry)))) (now (printed .exit)) r ⌝ }
+    ensures { λ r. ⌜ Placed (now (printed .entry)) 0
+        (changeText (sheetBefore (now (entries .entry))) (sheet (now (changed .entry)))) (now (printed .exit)) r ⌝ }
 {
     let mut before = [0u32; CELLS];
     let mut after = [0u32; CELLS];
@@ -192,23 +193,12 @@ fn give(
     }
 }
 
-// Puts a sentence that was made apart.
-fn say_sentence(
-    sentence: &[u8; program_outcome::SAID_BYTES],
-    size: usize,
-    said: &mut [u8; SAID_BYTES],
-) -> usize
-    ensures { λ r. ⌜ Placed (now (said .entry)) 0 (take size (now (sentence .entry))) (now (said .exit)) r ⌝ }
-{
-    text::put_bytes(said, 0, program_outcome::front(sentence, size))
-}
-
 fn say_site(sought: Sought, name: &[u8], word: &[u8], said: &mut [u8; SAID_BYTES]) -> usize
     ensures { λ r. ⌜ Placed (now (said .entry)) 0 (soughtText sought (now (name .entry)) (now (word .entry))) (now (said .exit)) r ⌝ }
 {
     let mut sentence = [0u8; program_outcome::SAID_BYTES];
     let size = program_site::say_site(sought, name, word, &mut sentence);
-    say_sentence(&sentence, size, said)
+    program_changes::put_sentence(said, 0, &sentence, size)
 }
 
 fn say_unread(name: &[u8], said: &mut [u8; SAID_BYTES]) -> usize
@@ -216,7 +206,7 @@ fn say_unread(name: &[u8], said: &mut [u8; SAID_BYTES]) -> usize
 {
     let mut sentence = [0u8; program_outcome::SAID_BYTES];
     let size = program_outcome::say(name, Remark::Unread, &mut sentence);
-    say_sentence(&sentence, size, said)
+    program_changes::put_sentence(said, 0, &sentence, size)
 }
 
 // Changes entries of the site that a word names.

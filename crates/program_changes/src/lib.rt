@@ -161,7 +161,7 @@ fn put_heading(out: &mut [u8], at: usize, several: bool, n: usize) -> usize
 }
 
 // Puts a sentence that was made apart.
-fn put_sentence(
+pub fn put_sentence(
     out: &mut [u8],
     at: usize,
     sentence: &[u8; program_outcome::SAID_BYTES],

@@ -11,7 +11,12 @@ use denote.Ref.{now}
 use denote.Triple.Clauses.{AtExit}
 use borrow.Fn.World.{World, ArgsD, ResD, Pr}
 use Rattle.layout.specs.Entries.{entryCount}
-use Rattle.study.specs.Study.{siteLimit}
+use Rattle.answers.specs.declared.Answer.the-variants.{Accepted}
+use Rattle.lists.specs.Lists.{AllBelow, over}
+use Rattle.study_numbers.specs.Numbers.{byteLimit}
+use Rattle.study.specs.Study.{siteLimit, countOf, siteAnswer, entriesUpTo, fileOf}
+use Rattle.study_changed.specs.Changed.{withEntries}
+use Rattle.study_changed.proofs.Written.{changed-study as study-changed}
 use Rattle.text.specs.Text.{Placed}
 use Rattle.program_outcome.specs.declared.Lengths.{Lengths}
 use Rattle.program_outcome.specs.Outcome.{Outcome, Left}
@@ -81,6 +86,13 @@ pub made-of-texts :
     (all : List ℕ) (texts : List Typed) → length all ≡ entryCount * siteLimit → length texts ≤ siteLimit
     → finished (steps (record { all = all; sites = 0; says = [] }) texts) ≡ made [] texts
 made-of-texts = texts-made
+
+-- THE STUDY THAT IS WRITTEN. What `icuamend` writes, entries over the block of a site that the file has, is the study file of all
+-- sites' entries with those of the site replaced.
+pub changed-study :
+    (file : List ℕ) (site : ℕ) (entries : List ℕ) → AllBelow byteLimit file → siteAnswer file site ≡ Accepted → length entries ≡ entryCount
+    → withEntries file site entries ≡ fileOf (over (entriesUpTo file (countOf file)) (entryCount * site) entries)
+changed-study = study-changed
 
 -- THE CALLS THEMSELVES. A clause of a promise says this fact and nothing else.
 abbrev Exactly : (w : World) → Pr w → Type 0 → Type 2

@@ -59,4 +59,5 @@ returns-3 c =
 pub amend-file-spec : {M : Type 1} → statement M
 amend-file-spec =
     tie.close
-    (tie.spec (search needs) (search needs) (search needs) (search needs) (search needs) change-all-requires (search needs) give-requires (search needs) (search needs) (search needs) (search needs) (search needs) (search needs) returns returns-2 returns-3)
+    (tie.spec (search needs) (search needs) (search needs) (search needs) (search needs) change-all-requires (search needs) give-requires
+    (search needs) (search needs) (search needs) (search needs) (search needs) (search needs) returns returns-2 returns-3)
