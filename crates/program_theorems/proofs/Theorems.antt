@@ -20,7 +20,7 @@ use Rattle.study_changed.proofs.Written.{changed-study as study-changed}
 use Rattle.text.specs.Text.{Placed}
 use Rattle.program_outcome.specs.declared.Lengths.{Lengths}
 use Rattle.program_outcome.specs.Outcome.{Outcome, Left}
-use Rattle.program_sheet.specs.Run.{sheetRun}
+use Rattle.program_sheet.specs.Run.{sheetRun, pageAt}
 use Rattle.program_amend.specs.Run.{amendRun}
 use Rattle.program_study.specs.Run.{toldOf, showRun}
 use Rattle.program_make.specs.Make.{textSays, textAdds, studyOf}
@@ -32,6 +32,10 @@ use Rattle.program_sheet.proofs.run as sheet
 use Rattle.program_sheet.proofs.run.Statement as sheet-stated
 use Rattle.program_sheet.proofs.run.Reads as sheet-reads
 use Rattle.program_sheet.proofs.run.Met as sheet-met
+use Rattle.program_sheet.proofs.page as page
+use Rattle.program_sheet.proofs.page.Statement as page-stated
+use Rattle.program_sheet.proofs.page.Reads as page-reads
+use Rattle.program_sheet.proofs.page.Met as page-met
 use Rattle.program_amend.proofs.run as amend
 use Rattle.program_amend.proofs.run.Statement as amend-stated
 use Rattle.program_amend.proofs.run.Reads as amend-reads
@@ -111,6 +115,16 @@ pub sheet-promises :
     (Left (sheetRun (a .0) (now (a .1 .0)) (now (a .1 .1 .0))) (now (a .1 .1 .1 .0)) (now (a .1 .1 .1 .1 .0)) (now (s .1 .1 .1 .0))
     (now (s .1 .1 .1 .1 .0)) r)
 sheet-promises κs a r s w = refl
+
+pub page-keeps : {M : Type 1} → page-stated.statement M
+page-keeps = page-met.met
+
+pub page-promises :
+    (κs : Lfts 4) (a : ArgsD page.signature κs) (r : ResD page.signature κs) (s : AtExit page.ended κs) (w : World)
+    → Exactly w (page-reads.ensures κs a tt r s w)
+    (Left (pageAt (a .0) (now (a .1 .0)) (now (a .1 .1 .0)) (a .1 .1 .1 .0)) (now (a .1 .1 .1 .1 .0)) (now (a .1 .1 .1 .1 .1 .0))
+    (now (s .1 .1 .1 .1 .0)) (now (s .1 .1 .1 .1 .1 .0)) r)
+page-promises κs a r s w = refl
 
 pub amend-keeps : {M : Type 1} → amend-stated.statement M
 amend-keeps = amend-met.met
