@@ -63,20 +63,20 @@ def study_of(sites):
     return bytes(out)
 
 
-def sheet_of(entries):
-    """What icusheet prints of entries, to standard output and to standard error."""
-    answer = icu2003.judge(entries)
-    if answer != (0, 0):
-        return b"", (table.refusal_text(*answer) + "\n").encode()
-    return table.sheet_text(icu2003.fill(entries)).encode(), b""
-
-
 def typed_sheet(path, data):
-    """What icusheet prints of a text."""
+    """What icusheet prints of a text, to standard output and to standard error."""
+    if icu2003.study_check(data) == (0, 0):
+        return b"", os.fsencode(path) + b": this is a study file: add a site, counted from 1, or all\n"
     said = table.said_of(data)
     if said:
-        return b"", path.encode() + b": " + said.encode()
-    return table.sheet_text(icu2003.fill(table.read_text(data))).encode(), b""
+        return b"", os.fsencode(path) + b": " + said.encode()
+    return table.text_page(path, data), b""
+
+
+def all_pages(path, sites):
+    """What icusheet prints of all sites: a form feed begins each page but the first."""
+    pages = [table.site_page(path, number, len(sites), entries) for number, entries in enumerate(sites, 1)]
+    return b"\x0c".join(out for out, _ in pages), b"".join(said for _, said in pages)
 
 
 def pick(rng, entry):
@@ -174,8 +174,21 @@ def usage(b):
         out, got = b.run("icuamend", study, "1", *words)
         b.same("output", out, b"")
         b.same("said", got.startswith(said), True)
-    for words in ((study, "0"), (study, "2"), (study, "x"), (study, ""), (study, "4294967296"), (study, "9" * 20)):
-        b.same("site", b.run("icusheet", *words), (b"", words[1].encode() + b": the study has no such site\n"))
+    for count in (0, 1, 2, 180):
+        several = b.put("several.icus", study_of([junctions.K1] * count))
+        for site in ("0", str(count + 1), "x", "", "All", "4294967296", "9" * 20) + (("all",) if count == 0 else ()):
+            said = site.encode() + b": the study has %d site%s\n" % (count, b"" if count == 1 else b"s")
+            b.same("site", b.run("icusheet", several, site), (b"", said))
+            b.same("site, shown", b.run("icustudy", "show", several, site), (b"", said))
+        b.same("no site", b.run("icusheet", several), typed_sheet(several, b.get("several.icus")))
+    text = os.path.join(SAMPLES, "k1.txt")
+    for site in ("1", "all", ""):
+        b.same("no study", b.run("icusheet", text, site), (b"", text.encode() + b": R6: this is no study file\n"))
+    out, said = b.run("icusheet", "--help")
+    b.same("help", (out, said), (b.run("icusheet")[1], b""))
+    b.same("version", b.run("icusheet", "--version"), (b"icu2003 1.0\n", b""))
+    for words in (("--help", "1"), ("-h",), ("--version", "all"), ("--Help",)):
+        b.same("no wish", b.run("icusheet", *words), (b"", words[0].encode() + b": cannot be read\n"))
     for missing in ("nothing", ".", ""):
         b.same("missing", b.run("icusheet", missing), (b"", missing.encode() + b": cannot be read\n"))
     b.same("unwritable", b.run("icustudy", "make", ".", os.path.join(SAMPLES, "k1.txt")), (b"", b".: cannot be written\n"))
@@ -194,9 +207,10 @@ def samples(b):
     study = b.path("ten.icus")
     b.same("make", b.run("icustudy", "make", study, *texts), (b"", b""))
     b.same("study", b.get("ten.icus"), study_of(sites))
+    b.same("all sites", b.run("icusheet", study, "all"), all_pages(study, sites))
     for number, name in enumerate(NAMES, 1):
         b.same("typed " + name, b.run("icusheet", texts[number - 1]), (b.get(name + ".sheet"), b""))
-        b.same("site " + name, b.run("icusheet", study, str(number)), (b.get(name + ".sheet"), b""))
+        b.same("site " + name, b.run("icusheet", study, str(number)), table.site_page(study, number, len(sites), sites[number - 1]))
         b.same("text " + name, b.run("icustudy", "show", study, str(number)), (b.get(name + ".full"), b""))
         words = b.get(name + ".amend").decode().split()
         b.same("change " + name, b.run("icuamend", study, str(number), *words), (b.get(name + ".changes"), b""))
@@ -207,7 +221,8 @@ def named(b):
     sites = [entries for _, entries in junctions.all_junctions()]
     study = b.put("named.icus", study_of(sites))
     for number, entries in enumerate(sites, 1):
-        b.same("named junction", b.run("icusheet", study, str(number)), sheet_of(entries))
+        b.same("named junction", b.run("icusheet", study, str(number)), table.site_page(study, number, len(sites), entries))
+    b.same("all named", b.run("icusheet", study, "all"), all_pages(study, sites))
 
 
 def correction(rng):
@@ -241,8 +256,17 @@ def typed(b):
     """Texts in any order and layout."""
     for _ in range(150):
         data = loosely(b.rng, likely(b.rng))
+        data = b.rng.choice((b"", b"", b"# first\n\t", MARK, MARK + b"\r\n#\n")) + titled(b.rng) + data
         path = b.put("typed.txt", data)
         b.same("typed", b.run("icusheet", path), typed_sheet(path, data))
+
+
+def titled(rng):
+    """A title in quotes, mostly, or nothing; blanks of any kind, bytes of any writing."""
+    if rng.random() < 0.3:
+        return b""
+    title = bytes(rng.choice(b"Elm# 3rd\\'") if rng.random() < 0.8 else rng.randrange(128, 256) for _ in range(rng.choice((1, 2, 20, 59, 60))))
+    return b"title" + rng.choice((b" ", b"\t", b" \r\n ", b"\n")) + b'"' + title + b'"' + rng.choice((b"", b"\n", b" # the title"))
 
 
 def unread(b, data):
@@ -269,6 +293,11 @@ def damaged_texts(b):
                  b"EBL\0 lanes 1", b"EBL lanes 1,", b"junctions cycle 60", b"pedestrian-times 1",
                  b"EBL lost-time 4", b"EBL lost-time 4000", b"EBL lost-time 4.5s", b"EBL lost-time 4.5ms", b"EBL lost-time 4.1234s", b"EBL lost-time 20.001s",
                  b"EBL lost-time 99999999999.5s", b"EB pedestrian-time 16", b"EBL volume 4s", b"junction cycle 120s", b"EBL lanes 99999999999",
+                 b"title", b"title ", b"title\n", b"titles", b"Title \"Elm\"", b"title Elm", b"title \"", b"title \"\"", b"title \"Elm", b"title\"Elm\"",
+                 b"title # a comment\n\"Elm\"", b"title \"Elm\n\"", b"title \"Elm\" ", b"title \"Elm\"EBL lanes 1", b"title \"Elm\"\"", b"title \"Elm\" title \"Elm\"",
+                 b"title \"" + b"x" * 60 + b"\"", b"title \"" + b"x" * 61 + b"\"", b"title \"\x1b[31m\"", b"title \"\x7f\"", b"title \"\x00\"", b"title \"\xff\xfe\"",
+                 b"title \"#\"", b"# title \"Elm\"", b" \r\n#x\n#\n title \"Elm\"", b"EBL lanes 1 title \"Elm\"", b"junction title", b"title \"Elm\" EBL lanes",
+                 b"title \"Elm\"\njunction cycle 29", b"title \"Elm\"\nEBL lane 1", b"tit", b"#title", b"title \xc2\xa0\"Elm\"", b"title \"Elm\"\n" + MARK,
                  b"Stra\xc3\x9fe", b"x" * 24, b"x" * 25, b"\x1b[31mEBL", b"\"EBL\"", b"EBL lanes 1\n  lane 2", b"EBL\tlanes\xc2\xa01"):
         unread(b, data)
         unread(b, MARK + data)
@@ -282,6 +311,17 @@ def damaged_texts(b):
             unread(b, front + b"# " + b"x" * 70 + b"\n" + b" " * size)
 
 
+def hostile(b):
+    """Names of files that would steer a terminal, or that no writing knows: the headings show them harmless."""
+    one, text = study_of([junctions.K1, [0] * 81]), table.brief_text("Elm", junctions.K1).encode()
+    for name in (b"\x1b[31m", b"a\nb", b"a\tb\x7f", b"\x01\x1f ~", b"Stra\xc3\x9fe", b"\xff\xfe\x80", b"a: b, site 3 of 3", b"x" * 250):
+        path = os.path.join(os.fsencode(b.folder), name)
+        for data, words, wanted in ((one, [b"all"], all_pages(path, [junctions.K1, [0] * 81])), (text, [], typed_sheet(path, text))):
+            with open(path, "wb") as f:
+                f.write(data)
+            b.same("hostile name", b.run("icusheet", path, *words), wanted)
+
+
 def studies(b):
     """Sites of any numbers as texts and back, and study files of any bytes."""
     for _ in range(60):
@@ -292,21 +332,27 @@ def studies(b):
             out, said = b.run("icustudy", "show", study, str(number))
             b.same("shown", (out, said), (table.write_text(entries).encode(), b""))
             b.same("read back", table.parse(out)[0], entries)
-            b.same("sheet", b.run("icusheet", study, str(number)), sheet_of(entries))
+            b.same("sheet", b.run("icusheet", study, str(number)), table.site_page(study, number, len(sites), entries))
+        b.same("sheets", b.run("icusheet", study, "all"), all_pages(study, sites))
     whole = study_of([likely(b.rng) for _ in range(3)])
     for _ in range(150):
         data = whole if b.rng.random() < 0.1 else damaged(b.rng, whole)
         path, answer = b.put("bad.icus", data), icu2003.study_check(data)
-        if answer == (0, 0):
-            wanted = sheet_of(icu2003.block_entries(icu2003.study_site(data, 0))) if icu2003.number_at(data, 4) else None
-        else:
-            wanted = b"", (table.refusal_text(*answer) + "\n").encode()
-        if wanted:
-            b.same("bad study", b.run("icusheet", path, "1"), wanted)
-            b.same("bad study, shown", b.run("icustudy", "show", path, "1")[1], wanted[1] if answer != (0, 0) else b"")
+        if answer != (0, 0):
+            said = path.encode() + b": " + table.refusal_text(*answer).encode() + b"\n"
+            b.same("bad study", b.run("icusheet", path, "1"), (b"", said))
+            b.same("bad study, all", b.run("icusheet", path, "all"), (b"", said))
+            b.same("bad study, shown", b.run("icustudy", "show", path, "1"), (b"", said))
+            continue
+        sites = [icu2003.block_entries(icu2003.study_site(data, k)) for k in range(icu2003.number_at(data, 4))]
+        if sites:
+            b.same("first site", b.run("icusheet", path, "1"), table.site_page(path, 1, len(sites), sites[0]))
+            b.same("all sites", b.run("icusheet", path, "all"), all_pages(path, sites))
     full = [likely(b.rng) for _ in range(180)]
     study = b.put("full.icus", study_of(full))
-    b.same("last of 180", b.run("icusheet", study, "180"), sheet_of(full[179]))
+    b.same("last of 180", b.run("icusheet", study, "180"), table.site_page(study, 180, 180, full[179]))
+    b.same("all 180", b.run("icusheet", study, "all"), all_pages(study, full))
+    hostile(b)
     k1 = os.path.join(SAMPLES, "k1.txt")
     b.same("180 texts", b.run("icustudy", "make", b.path("most.icus"), *[k1] * 180), (b"", b""))
     b.same("180 sites", b.get("most.icus"), study_of([junctions.K1] * 180))

@@ -94,8 +94,8 @@ def write_text(entries):
 
 
 def brief_text(title, entries):
-    """As a person types it: a comment, and what is not usual."""
-    out = ["# " + title + "\n"]
+    """As a person types it: a title, and what is not usual."""
+    out = ['title "%s"\n' % title]
     for group, name in enumerate(GROUPS):
         given = [kind + " " + value_text(kind, entries[5 * group + j]) for j, kind in enumerate(kinds_of(group))
                  if entries[5 * group + j] != USUAL[5 * group + j] or group == 16]
@@ -114,9 +114,24 @@ def quoted(word):
     return '"%s%s"' % ("".join(chr(b) if 33 <= b <= 126 else "?" for b in word[:24]), ".." if len(word) > 24 else "")
 
 
+LEAD = re.compile(rb"(?:[ \t\r\n]|#[^\n]*)*")  # blanks and comments
+TITLE = re.compile(rb'title[ \t\r\n]+"([^"\x00-\x1f\x7f]{1,60})"')
+
+
+def titled(data):
+    """The title in quotes that an unmarked text may begin with, and the place past it; or Wrong."""
+    place = LEAD.match(data).end()
+    if data[place:place + 5] != b"title":
+        return b"", 0
+    found = TITLE.match(data, place)
+    if not found:
+        raise Wrong(place, 'a title is written in quotes, as title "Elm and 3rd", with at most 60 bytes')
+    return found.group(1), found.end()
+
+
 def words(data):
-    """(place, word) of each word of the text."""
-    place, n = 0, len(data)
+    """(place, word) of each word of the text past its title."""
+    place, n = titled(data)[1], len(data)
     while place < n:
         byte = data[place]
         if byte in b" \t\r\n":
@@ -169,6 +184,8 @@ def refusal_text(number, place):
         said = "%s: a shared lane needs a through lane and no left lane beside it" % APPROACHES[place]
     elif number == 5:
         said = "%s: vehicles, and no lane that takes them" % GROUPS[place]
+    elif place == 0:
+        said = "this is no study file"
     else:
         said = "the study file is badly laid out at byte %d" % place
     return "R%d: %s" % (number, said)
@@ -278,6 +295,29 @@ def sheet_text(cells):
     return "".join(out)
 
 
+def shown_name(name):
+    """The bytes of a file's name; a question mark for those that steer a terminal."""
+    return bytes(63 if byte < 32 or byte == 127 else byte for byte in os.fsencode(name))
+
+
+def text_page(name, data):
+    """What is printed of a text that reads well: a heading with its name and its title, and the worksheet."""
+    title = titled(unmarked(data))[0]
+    heading = shown_name(name) + (b": " + title if title else b"") + b"\n\n"
+    return heading + sheet_text(icu2003.fill(read_text(data))).encode()
+
+
+def site_page(name, number, sites, entries):
+    """What is printed and what is said of a site: a heading, and the worksheet or why it is refused."""
+    whose = shown_name(name) + b", site %d" % number
+    heading = whose + b" of %d\n\n" % sites
+    answer = icu2003.judge(entries)
+    if answer == (0, 0):
+        return heading + sheet_text(icu2003.fill(entries)).encode(), b""
+    refusal = refusal_text(*answer).encode() + b"\n"
+    return heading + refusal, whose + b": " + refusal
+
+
 def change_text(before, after):
     """A row for each cell that changed, in the cells' order; the ICU and the letter in any case."""
     found = {i: (row, name) for row, columns, where in cell_rows() for name, i in zip(columns, where)}
@@ -340,7 +380,7 @@ def main(outdir):
         answer = icu2003.amend(after, NAMED[group, kind], value_of(kind, value.encode()))
         put(outdir, name + ".txt", typed)
         put(outdir, name + ".full", write_text(entries))
-        put(outdir, name + ".sheet", sheet_text(before))
+        put(outdir, name + ".sheet", text_page("samples/table/%s.txt" % name, typed.encode()).decode())
         put(outdir, name + ".amend", AMENDMENTS[name] + "\n")
         put(outdir, name + ".changes", change_text(before, after) if answer == (0, 0) else refusal_text(*answer) + "\n")
 
