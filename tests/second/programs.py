@@ -361,7 +361,7 @@ def typed(b):
         path = b.put("typed.txt", data)
         b.same("typed", b.run("icusheet", path), typed_sheet(path, data))
     study = study_of([junctions.K1, junctions.changed(junctions.K1, {80: 29})])
-    for name in ("a\x1b[31mb.txt", "x\x7f", "new\nline", "Stra\xdfe", "a b", "n" * 200):
+    for name in ("a\x1b[31mb.txt", "x\x7f", "new\nline", "Stra\xdfe", "a b", "a: b, site 3 of 3", "n" * 200):
         path = b.put(name, b'title "Elm"\n' + table.write_text(junctions.K1).encode())
         b.same("name", b.run("icusheet", path), typed_sheet(path, b.get(name)))
         b.put(name, study)
@@ -395,7 +395,9 @@ def damaged_texts(b):
                  b"Stra\xc3\x9fe", b"x" * 24, b"x" * 25, b"\x1b[31mEBL", b"\"EBL\"", b"EBL lanes 1\n  lane 2", b"EBL\tlanes\xc2\xa01",
                  b"title", b"title ", b'title "', b'title ""', b'title "x"', b'title "x"EBL lanes 1', b'title"x"', b"titles", b'title "x" title "y"',
                  b'EBL lanes 1 title "x"', b'# c\n \ttitle\r\n"x"# c', b'title "' + b"x" * 60 + b'"', b'title "' + b"x" * 61 + b'"', b"title 'x'",
-                 b'title "a\nb"', b'title "a\x7fb"', b'title "\xff\xfe"', b'Title "x"', b'title "x\nEBL volume 5'):
+                 b'title "a\nb"', b'title "a\x7fb"', b'title "\xff\xfe"', b'Title "x"', b'title "x\nEBL volume 5', b'title # a comment\n"Elm"', b'title "Elm""',
+                 b'title "\x1b[31m"', b'title "#"', b'#title "Elm"', b"junction title", b'title "Elm" EBL lanes', b'title "Elm"\njunction cycle 29',
+                 b'title "Elm"\nEBL lane 1', b"tit", b'title \xc2\xa0"Elm"'):
         unread(b, data)
         unread(b, MARK + data)
         unread(b, MARK + MARK + data)
