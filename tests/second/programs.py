@@ -210,7 +210,7 @@ def samples(b):
     b.same("all sites", b.run("icusheet", study, "all"), all_pages(study, sites))
     for number, name in enumerate(NAMES, 1):
         b.same("typed " + name, b.run("icusheet", texts[number - 1]), (b.get(name + ".sheet"), b""))
-        b.same("site " + name, b.run("icusheet", study, str(number)), table.site_page(study, number, len(sites), sites[number - 1]))
+        b.same("site " + name, b.run("icusheet", study, str(number)), table.site_alone(study, number, len(sites), sites[number - 1]))
         b.same("text " + name, b.run("icustudy", "show", study, str(number)), (b.get(name + ".full"), b""))
         words = b.get(name + ".amend").decode().split()
         b.same("change " + name, b.run("icuamend", study, str(number), *words), (b.get(name + ".changes"), b""))
@@ -221,7 +221,7 @@ def named(b):
     sites = [entries for _, entries in junctions.all_junctions()]
     study = b.put("named.icus", study_of(sites))
     for number, entries in enumerate(sites, 1):
-        b.same("named junction", b.run("icusheet", study, str(number)), table.site_page(study, number, len(sites), entries))
+        b.same("named junction", b.run("icusheet", study, str(number)), table.site_alone(study, number, len(sites), entries))
     b.same("all named", b.run("icusheet", study, "all"), all_pages(study, sites))
 
 
@@ -332,7 +332,7 @@ def studies(b):
             out, said = b.run("icustudy", "show", study, str(number))
             b.same("shown", (out, said), (table.write_text(entries).encode(), b""))
             b.same("read back", table.parse(out)[0], entries)
-            b.same("sheet", b.run("icusheet", study, str(number)), table.site_page(study, number, len(sites), entries))
+            b.same("sheet", b.run("icusheet", study, str(number)), table.site_alone(study, number, len(sites), entries))
         b.same("sheets", b.run("icusheet", study, "all"), all_pages(study, sites))
     whole = study_of([likely(b.rng) for _ in range(3)])
     for _ in range(150):
@@ -346,11 +346,11 @@ def studies(b):
             continue
         sites = [icu2003.block_entries(icu2003.study_site(data, k)) for k in range(icu2003.number_at(data, 4))]
         if sites:
-            b.same("first site", b.run("icusheet", path, "1"), table.site_page(path, 1, len(sites), sites[0]))
+            b.same("first site", b.run("icusheet", path, "1"), table.site_alone(path, 1, len(sites), sites[0]))
             b.same("all sites", b.run("icusheet", path, "all"), all_pages(path, sites))
     full = [likely(b.rng) for _ in range(180)]
     study = b.put("full.icus", study_of(full))
-    b.same("last of 180", b.run("icusheet", study, "180"), table.site_page(study, 180, 180, full[179]))
+    b.same("last of 180", b.run("icusheet", study, "180"), table.site_alone(study, 180, 180, full[179]))
     b.same("all 180", b.run("icusheet", study, "all"), all_pages(study, full))
     hostile(b)
     k1 = os.path.join(SAMPLES, "k1.txt")

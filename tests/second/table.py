@@ -308,7 +308,7 @@ def text_page(name, data):
 
 
 def site_page(name, number, sites, entries):
-    """What is printed and what is said of a site: a heading, and the worksheet or why it is refused."""
+    """What is printed and said of a site among all: a heading, and the worksheet or why it is refused."""
     whose = shown_name(name) + b", site %d" % number
     heading = whose + b" of %d\n\n" % sites
     answer = icu2003.judge(entries)
@@ -316,6 +316,12 @@ def site_page(name, number, sites, entries):
         return heading + sheet_text(icu2003.fill(entries)).encode(), b""
     refusal = refusal_text(*answer).encode() + b"\n"
     return heading + refusal, whose + b": " + refusal
+
+
+def site_alone(name, number, sites, entries):
+    """What is printed and said of a site alone: nothing is printed where it is refused."""
+    out, said = site_page(name, number, sites, entries)
+    return (b"", said) if said else (out, b"")
 
 
 def change_text(before, after):
