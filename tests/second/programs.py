@@ -280,7 +280,7 @@ def samples(b):
     b.same("study", b.get("ten.icus"), study_of(sites))
     for number, name in enumerate(NAMES, 1):
         b.same("typed " + name, b.run("icusheet", texts[number - 1]), (b.get(name + ".sheet"), b""))
-        b.same("site " + name, b.run("icusheet", study, str(number)), table.site_page(study.encode(), sites, number))
+        b.same("site " + name, b.run("icusheet", study, str(number)), table.site_alone(study.encode(), sites, number))
         b.same("text " + name, b.run("icustudy", "show", study, str(number)), (b.get(name + ".full"), b""))
         words = b.get(name + ".amend").decode().split()
         b.same("change " + name, b.run("icuamend", study, str(number), *words), (b.get(name + ".changes"), b""))
@@ -303,7 +303,7 @@ def named(b):
     sites = [entries for _, entries in junctions.all_junctions()]
     study = b.put("named.icus", study_of(sites))
     for number, entries in enumerate(sites, 1):
-        b.same("named junction", b.run("icusheet", study, str(number)), table.site_page(study.encode(), sites, number))
+        b.same("named junction", b.run("icusheet", study, str(number)), table.site_alone(study.encode(), sites, number))
     b.same("all of them", b.run("icusheet", study, "all"), all_pages(study, sites))
 
 
@@ -420,7 +420,7 @@ def studies(b):
             out, said = b.run("icustudy", "show", study, str(number))
             b.same("shown", (out, said), (table.write_text(entries).encode(), b""))
             b.same("read back", table.parse(out)[0], entries)
-            b.same("sheet", b.run("icusheet", study, str(number)), table.site_page(study.encode(), sites, number))
+            b.same("sheet", b.run("icusheet", study, str(number)), table.site_alone(study.encode(), sites, number))
         b.same("sheets", b.run("icusheet", study, "all"), all_pages(study, sites))
         b.same("no text", b.run("icusheet", study), typed_sheet(study, study_of(sites)))
     whole = study_of([likely(b.rng) for _ in range(3)])
@@ -438,7 +438,7 @@ def studies(b):
             b.same("bad study, shown", b.run("icustudy", "show", path, "1"), wanted)
     full = [likely(b.rng) for _ in range(180)]
     study = b.put("full.icus", study_of(full))
-    b.same("last of 180", b.run("icusheet", study, "180"), table.site_page(study.encode(), full, 180))
+    b.same("last of 180", b.run("icusheet", study, "180"), table.site_alone(study.encode(), full, 180))
     b.same("all of 180", b.run("icusheet", study, "all"), all_pages(study, full))
     k1 = os.path.join(SAMPLES, "k1.txt")
     b.same("180 texts", b.run("icustudy", "make", b.path("most.icus"), *[k1] * 180), (b"", b""))

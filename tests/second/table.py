@@ -348,6 +348,12 @@ def site_page(name, sites, number):
     return whose + b" of %d\n\n" % len(sites) + body, whose + b": " + said if said else b""
 
 
+def site_alone(name, sites, number):
+    """What is printed and said of one site: nothing is printed where it is refused."""
+    page, said = site_page(name, sites, number)
+    return b"" if said else page, said
+
+
 # ---------------------------------------------------------------- the samples
 
 AMENDMENTS = {

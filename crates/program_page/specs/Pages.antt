@@ -10,7 +10,7 @@ use Rattle.page.specs.Worksheet.{sheetText}
 use Rattle.text_titles.specs.Titles.{titleOf}
 use Rattle.text_scan.specs.Scanning.{unmarked}
 use Rattle.text_refusals.specs.Refusals.{answerText}
-use Rattle.program_outcome.specs.Outcome.{Outcome, printing, named}
+use Rattle.program_outcome.specs.Outcome.{Outcome, printing, saying, named}
 use Rattle.program_heading.specs.Headings.{textHeading, siteTitle, siteHeading}
 use Rattle.program_heading.specs.declared.Spot.{Spot}
 
@@ -42,6 +42,14 @@ pageOf heading whose e = record { prints = heading ++ bodyOf e; writes = []; say
 unfoldable pub textPage : List ℕ → List ℕ → List ℕ → Outcome
 textPage name text e = pageOf (textHeading name (titleOf (unmarked text))) name e
 
--- of the entries of a site that a study has
+-- of the entries of a site that a study has, among the pages of all its sites
 unfoldable pub sitePage : List ℕ → Spot → List ℕ → Outcome
 sitePage name spot e = pageOf (siteHeading name spot) (siteTitle name (spot .site)) e
+
+-- and alone: where they are refused, that is said and nothing printed
+abbrev pub aloneBy : Answer → List ℕ → Spot → List ℕ → Outcome
+aloneBy Accepted name spot e = sitePage name spot e
+aloneBy (No why place) name spot e = saying (refusedOf (siteTitle name (spot .site)) (judged e))
+
+unfoldable pub siteAlone : List ℕ → Spot → List ℕ → Outcome
+siteAlone name spot e = aloneBy (judged e) name spot e

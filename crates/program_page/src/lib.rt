@@ -12,7 +12,7 @@ ghost use Rattle.text_numbers.specs.Numbers.{tooLarge};
 ghost use Rattle.program_outcome.specs.Outcome.{Left};
 ghost use Rattle.program_heading.specs.Headings.{siteTitle};
 ghost use Rattle.program_heading.specs.Working.{headingMost};
-ghost use Rattle.program_page.specs.Pages.{pageText, bodyOf, refusedOf, textPage, sitePage};
+ghost use Rattle.program_page.specs.Pages.{pageText, bodyOf, refusedOf, textPage, sitePage, siteAlone};
 ghost use Rattle.program_page.specs.Working.{onlyPrinted};
 use answers::Answer;
 use layout::ENTRIES;
@@ -121,7 +121,8 @@ fn put_text_page(
     entries: &[u32; ENTRIES],
     printed: &mut [u8; PRINTED_BYTES],
 ) -> usize
-    ensures { λ r. ⌜ Placed (now (printed .entry)) 0 (textPage (now (name .entry)) (now (text .entry)) (now (entries .entry)) .prints) (now (printed .exit)) r ⌝ }
+    ensures { λ r. ⌜ Placed (now (printed .entry)) 0 (textPage (now (name .entry)) (now (text .entry)) (now (entries .entry)) .prints)
+        (now (printed .exit)) r ⌝ }
 {
     let mut heading = [0u8; HEADING_BYTES];
     let title = text_titles::title_in(text_scan::unmarked(text));
@@ -213,4 +214,23 @@ pub fn print_site(
         writes: 0,
         says,
     }
+}
+
+// The same for a site alone: where its entries are refused, nothing is printed.
+pub fn print_alone(
+    name: &[u8],
+    spot: Spot,
+    entries: &[u32; ENTRIES],
+    printed: &mut [u8; PRINTED_BYTES],
+    said: &mut [u8; SAID_BYTES],
+) -> Lengths
+    requires { ⌜ spot .site + 1 < tooLarge ⌝ }
+    ensures { λ r. ⌜ Left (siteAlone (now (name .entry)) spot (now (entries .entry)))
+        (now (printed .entry)) (now (said .entry)) (now (printed .exit)) (now (said .exit)) r ⌝ }
+{
+    let answer = entries::judge(entries);
+    if let Answer::Refused(_, _) = answer {
+        return program_outcome::only_said(say_site(name, spot.site, entries, said));
+    }
+    print_site(name, spot, entries, printed, said)
 }

@@ -24,7 +24,7 @@ use Rattle.program_outcome.specs.declared.Remark.the-variants.{IsStudy}
 use Rattle.program_outcome.specs.Outcome.{Outcome, isEither, printing, saying, named, remarked, withFile}
 use Rattle.program_site.specs.Site.{sought, withSite}
 use Rattle.program_heading.specs.declared.Spot.{Spot}
-use Rattle.program_page.specs.Pages.{nothing, textPage, sitePage}
+use Rattle.program_page.specs.Pages.{nothing, textPage, sitePage, siteAlone}
 
 -- of the entries of a text, or what is wrong with it
 abbrev pub readAs : Reading → List ℕ → List ℕ → Outcome
@@ -47,7 +47,7 @@ spotIn file site follows = record { site = site; sites = countOf file; follows =
 -- of the site that a word names, alone
 unfoldable pub sheetOfSite : List ℕ → List ℕ → List ℕ → Outcome
 sheetOfSite name word file =
-    withSite (sought file word) name word (λ site. sitePage name (spotIn file site false) (siteEntries file site))
+    withSite (sought file word) name word (λ site. siteAlone name (spotIn file site false) (siteEntries file site))
 
 -- of all sites, page after page: before them it is said where the file is no study, or a study of no site
 unfoldable pub beforeAll : List ℕ → List ℕ → List ℕ → Outcome

@@ -93,7 +93,7 @@ fn sheet_of_site(
                 sites,
                 follows,
             };
-            program_page::print_site(name, spot, &entries, printed, said)
+            program_page::print_alone(name, spot, &entries, printed, said)
         }
         Sought::Missing(_) => {
             program_outcome::only_said(program_site::say_site(sought, name, word, said))

@@ -18,4 +18,5 @@ returns-2 c =
 
 pub page-spec : {M : Type 1} → statement M
 page-spec =
-    tie.close (tie.spec (search needs) (search needs) (search needs) returns (search needs) (search needs) (search needs) returns-2)
+    tie.close
+    (tie.spec (search needs) (search needs) (search needs) returns (search needs) (search needs) (search needs) returns-2)

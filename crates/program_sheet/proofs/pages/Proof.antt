@@ -37,4 +37,6 @@ returns-4 c =
 
 pub pages-spec : {M : Type 1} → statement M
 pages-spec =
-    tie.close (tie.spec returns (search needs) (search needs) returns-2 (search needs) (search needs) (search needs) (search needs) (search needs) returns-3 returns-4)
+    tie.close
+    (tie.spec returns (search needs) (search needs) returns-2 (search needs) (search needs) (search needs) (search needs)
+    (search needs) returns-3 returns-4)

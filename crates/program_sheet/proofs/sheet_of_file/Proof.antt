@@ -31,4 +31,6 @@ returns-3 c =
 
 pub sheet-of-file-spec : {M : Type 1} → statement M
 sheet-of-file-spec =
-    tie.close (tie.spec (search needs) (search needs) returns (search needs) (search needs) (search needs) (search needs) returns-2 (search needs) returns-3)
+    tie.close
+    (tie.spec (search needs) (search needs) returns (search needs) (search needs) (search needs) (search needs) returns-2
+    (search needs) returns-3)

@@ -7,8 +7,8 @@ use borrow.Author.Needs.{needs}
 use Rattle.program_sheet.proofs.sheet_of_site.Statement.{statement}
 use Rattle.program_sheet.proofs.sheet_of_site.Tie as tie
 
-print-site-requires : tie.Need-print-site-requires
-print-site-requires c κs =
+print-alone-requires : tie.Need-print-alone-requires
+print-alone-requires c κs =
     let told = c .before .before .before .before in
     let count = told .before .before .count .ensures in
     let read = told .before .before .before in
@@ -23,7 +23,7 @@ returns c =
     let count = told .before .before in
     let read = count .before in
     let is = sym (read .read-site .ensures .0) ∙ told .sought .given .1 in
-    rw is (rw (count .count .ensures .0, read .read-site .ensures .1, is) at (c .print-site .ensures))
+    rw is (rw (count .count .ensures .0, read .read-site .ensures .1, is) at (c .print-alone .ensures))
 
 returns-2 : tie.Need-returns-2
 unfolding sheetOfSite
@@ -43,4 +43,6 @@ returns-3 c =
 
 pub sheet-of-site-spec : {M : Type 1} → statement M
 sheet-of-site-spec =
-    tie.close (tie.spec (search needs) (search needs) (search needs) print-site-requires (search needs) (search needs) (search needs) (search needs) (search needs) (search needs) returns returns-2 returns-3)
+    tie.close
+    (tie.spec (search needs) (search needs) (search needs) print-alone-requires (search needs) (search needs) (search needs)
+    (search needs) (search needs) (search needs) returns returns-2 returns-3)

@@ -22,4 +22,5 @@ returns-2 c =
 
 pub sheet-of-text-spec : {M : Type 1} → statement M
 sheet-of-text-spec =
-    tie.close (tie.spec (search needs) (search needs) (search needs) (search needs) returns (search needs) (search needs) returns-2)
+    tie.close
+    (tie.spec (search needs) (search needs) (search needs) (search needs) returns (search needs) (search needs) returns-2)

@@ -30,4 +30,6 @@ returns-3 c =
 
 pub work-spec : {M : Type 1} → statement M
 work-spec =
-    tie.close (tie.spec (search needs) (search needs) (search needs) returns (search needs) (search needs) (search needs) (search needs) (search needs) returns-2 (search needs) (search needs) returns-3)
+    tie.close
+    (tie.spec (search needs) (search needs) (search needs) returns (search needs) (search needs) (search needs) (search needs)
+    (search needs) returns-2 (search needs) (search needs) returns-3)
