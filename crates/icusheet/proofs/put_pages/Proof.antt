@@ -12,4 +12,4 @@ abbrev μ-loop : tie.MeasureT-loop
 pub put-pages-spec : {M : Type 1} → statement M
 put-pages-spec =
     tie.close
-    (tie.spec Inv-loop μ-loop (search needs) (search needs) (search needs) (search needs) (search needs) (search needs) (search needs))
+    (tie.spec Inv-loop μ-loop (search needs) (search needs) (search needs) (search needs) (search needs) (search needs) (search needs) (search needs))
