@@ -37,7 +37,7 @@ PUBLIC = {
     "text_names": ["entry_named"],
     "program_outcome": ["front", "say"],
     "program_words": ["word"],
-    "program_sheet": ["takes", "run"],
+    "program_sheet": ["takes", "run", "pages", "page"],
     "program_amend": ["takes", "new_place", "run"],
     "program_study": ["job_of", "texts_in", "tell", "show"],
     "program_make": ["add", "make"],
