@@ -2,9 +2,10 @@
 -- promise, as the check proved it of its code; its promise is the definition of what the program gives, word for word; and any two
 -- outcomes that it allows agree. What is left without a promise is input and output alone.
 use mathlib.Core.Path.{_≡_, refl, sym, _∙_}
+use mathlib.Core.Bool.{true}
 use mathlib.Core.List.{List, []}
-use Prim.Native.Nat.{ℕ, _*_, _≤_}
-use lib.ListN.{length}
+use Prim.Native.Nat.{ℕ, _*_, _≤_, _<_}
+use lib.ListN.{length, take}
 use contract.Lifetimes.{Lfts}
 use contract.Notation.{connectives}
 use denote.Ref.{now}
@@ -18,9 +19,13 @@ use Rattle.study.specs.Study.{siteLimit, countOf, siteAnswer, entriesUpTo, file
 use Rattle.study_changed.specs.Changed.{withEntries}
 use Rattle.study_changed.proofs.Written.{changed-study as study-changed}
 use Rattle.text.specs.Text.{Placed}
+use Rattle.program_words.specs.Words.{wordAt}
+use Rattle.program_outcome.specs.declared.Input.the-variants.{Read}
 use Rattle.program_outcome.specs.declared.Lengths.{Lengths}
 use Rattle.program_outcome.specs.Outcome.{Outcome, Left}
-use Rattle.program_sheet.specs.Run.{sheetRun, pageAt}
+use Rattle.program_sheet.specs.Run.{asksAll, sheetRun, pagesOf, pageAt}
+use Rattle.program_sheet.specs.Whole.{pagesUpTo, sheetWhole}
+use Rattle.program_sheet.proofs.Whole.{all-pages as pages-whole}
 use Rattle.program_amend.specs.Run.{amendRun}
 use Rattle.program_study.specs.Run.{toldOf, showRun}
 use Rattle.program_make.specs.Make.{textSays, textAdds, studyOf}
@@ -32,6 +37,10 @@ use Rattle.program_sheet.proofs.run as sheet
 use Rattle.program_sheet.proofs.run.Statement as sheet-stated
 use Rattle.program_sheet.proofs.run.Reads as sheet-reads
 use Rattle.program_sheet.proofs.run.Met as sheet-met
+use Rattle.program_sheet.proofs.pages as pages
+use Rattle.program_sheet.proofs.pages.Statement as pages-stated
+use Rattle.program_sheet.proofs.pages.Reads as pages-reads
+use Rattle.program_sheet.proofs.pages.Met as pages-met
 use Rattle.program_sheet.proofs.page as page
 use Rattle.program_sheet.proofs.page.Statement as page-stated
 use Rattle.program_sheet.proofs.page.Reads as page-reads
@@ -91,6 +100,12 @@ pub made-of-texts :
     → finished (steps (record { all = all; sites = 0; says = [] }) texts) ≡ made [] texts
 made-of-texts = texts-made
 
+-- PAGE AFTER PAGE. Where all sites of a study are asked for, `icusheet` gives their pages in order, and nothing else.
+pub all-pages :
+    (words area : List ℕ) (size : ℕ) → asksAll (wordAt words 1) ≡ true → 0 < countOf (take size area)
+    → sheetWhole (record { arguments = 3; input = Read size }) words area ≡ pagesUpTo (Read size) words area (countOf (take size area))
+all-pages = pages-whole
+
 -- THE STUDY THAT IS WRITTEN. What `icuamend` writes, entries over the block of a site that the file has, is the study file of all
 -- sites' entries with those of the site replaced.
 pub changed-study :
@@ -115,6 +130,14 @@ pub sheet-promises :
     (Left (sheetRun (a .0) (now (a .1 .0)) (now (a .1 .1 .0))) (now (a .1 .1 .1 .0)) (now (a .1 .1 .1 .1 .0)) (now (s .1 .1 .1 .0))
     (now (s .1 .1 .1 .1 .0)) r)
 sheet-promises κs a r s w = refl
+
+pub pages-keeps : {M : Type 1} → pages-stated.statement M
+pages-keeps = pages-met.met
+
+pub pages-promises :
+    (κs : Lfts 2) (a : ArgsD pages.signature κs) (r : ResD pages.signature κs) (s : AtExit pages.ended κs) (w : World)
+    → Exactly w (pages-reads.ensures κs a tt r s w) (r ≡ pagesOf (a .0) (now (a .1 .0)) (now (a .1 .1 .0)))
+pages-promises κs a r s w = refl
 
 pub page-keeps : {M : Type 1} → page-stated.statement M
 page-keeps = page-met.met
