@@ -7,7 +7,7 @@ A public call is a `pub fn` of the crate icu, or one of those that the programs 
 From the names in its `ensures` the definitions in specs/ are followed, through each file's `use` lines, as far as they go; the
 structs and enums that the code declares count where a definition names them. Blank lines and comments are not counted.
 
-The theorem files speak of some definitions more (runs of amendments, K1 to K10, what fair means, texts one after the other): those
+The theorem files speak of some definitions more (runs of amendments, K1 to K10, what fair means, texts and pages one after the other): those
 are counted by themselves.
 All others are working definitions and stand in files of their own: specs/Working.antt, or a file whose first line says so.
 
@@ -206,7 +206,8 @@ def contracts(crate, wanted):
 def theorems(table):
     """What the statements in the theorem files name."""
     start = []
-    for crate, file in (("icu_theorems", "Theorems.antt"), ("program_make", "Made.antt")):
+    for crate, file in (("icu_theorems", "Theorems.antt"), ("program_theorems", "Theorems.antt"),
+                        ("program_make", "Made.antt"), ("program_sheet", "Whole.antt")):
         text = open(os.path.join(CRATES, crate, "proofs", file), encoding="utf-8").read()
         known = uses(text, crate)
         stated = "\n".join(re.findall(r"(?m)^ *(?:abbrev )?pub .*(?:\n    .*)*", text))
