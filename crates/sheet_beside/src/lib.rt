@@ -135,7 +135,8 @@ fn lane_at(entries: &[u32], a: usize, o: usize) -> [u32; LANE_NUMBERS]
 fn put_beside(entries: &[u32], cells: &[u32], all: &mut [u32], a: usize, o: usize, c: usize)
     requires { ⌜ (judged (now entries) ≡ Accepted) × (length (now cells) ≡ sheetCount) × (length (now all) ≡ pageCount) ⌝ }
     requires { ⌜ (a < approachCount) × (o < approachCount) × (c < approachCount) ⌝ }
-    ensures { λ _. ⌜ now (all .exit) ≡ over (now (all .entry)) (sheetCount + besideNumbers * a) (besideAt (now (entries .entry)) (now (cells .entry)) a o c) ⌝ }
+    ensures { λ _. ⌜ now (all .exit)
+        ≡ over (now (all .entry)) (sheetCount + besideNumbers * a) (besideAt (now (entries .entry)) (now (cells .entry)) a o c) ⌝ }
 {
     let lane = lane_at(entries, a, o);
     let added = added_in(cells, a, o, c);

@@ -1,3 +1,4 @@
+-- `entries::is_faulty`. One case for each fault; the place is below what that fault counts.
 use native.Mathlib.Omega.{arith}
 use borrow.Author.Needs.{needs}
 use Rattle.entries.proofs.is_faulty.Statement.{statement}

@@ -1,3 +1,4 @@
+-- `line_flows::straight_of`. Without folded lefts line 8 is line 6, by a law; else the formula, within its bounds.
 use Rattle.line_bounds.proofs.Flows.{volumes, flow-ready, straight-between, straight-alike}
 use Rattle.procedure.specs.Lines.{a, b, vST, sST}
 use Rattle.kinds.specs.declared.Group.the-variants.{Through}

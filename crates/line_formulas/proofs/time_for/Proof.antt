@@ -1,3 +1,4 @@
+-- `line_formulas::time_for`. The product fits, and so does the quotient, by the bounds of a volume that is served.
 use Rattle.units.specs.Unit.{flowUnit}
 use Rattle.kinds.specs.declared.Kind.the-variants.{Cycle}
 use Rattle.kinds.specs.Working.{mostOf}

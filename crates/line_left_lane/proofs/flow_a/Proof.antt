@@ -1,3 +1,4 @@
+-- `line_left_lane::flow_a`. No flow gives none; else each product fits, by one law of the room that line 22 takes.
 use Rattle.line_bounds.proofs.LeftLane.{FlowARoom, flowA-room, flowA-none}
 use Rattle.procedure.specs.Lines.{flowA}
 use mathlib.Core.Path.{sym}

@@ -1,3 +1,4 @@
+-- `line_left_lane::parts_of`. Lefts alone by a law; else each step of the divisor fits.
 use Rattle.line_bounds.proofs.LeftLane.{PartsRoom, parts-room, parts-of-lefts}
 use mathlib.Core.Path.{refl}
 use native.Mathlib.Omega.{arith}

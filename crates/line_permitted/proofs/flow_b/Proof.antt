@@ -1,3 +1,4 @@
+-- `line_permitted::flow_b`. Not shared, it is line 6; shared, there is a through lane to divide by, and the product fits.
 use mir.Facts.{fits-le, fits-lit}
 use native.Mathlib.Omega.{arith}
 use borrow.Author.Tests.{eq-eqb, ne-eqb}

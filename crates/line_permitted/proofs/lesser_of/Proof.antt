@@ -1,3 +1,4 @@
+-- `line_permitted::lesser_of`. The definition asks the same tests: each way through them is one of its cases.
 use native.Mathlib.Omega.{arith}
 use borrow.Author.Tests.{eq-eqb, ne-eqb}
 use Rattle.procedure.specs.Lines.{lesser}

@@ -1,3 +1,4 @@
+-- `line_permitted::through_b`. No volume gives none; else what is taken off is at most the 8 seconds.
 use native.Mathlib.Omega.{arith}
 use borrow.Author.Tests.{eq-eqb, ne-eqb}
 use Rattle.procedure.specs.Lines.{throughB}

@@ -1,3 +1,4 @@
+-- `line_walkers::walkers_frequency`. Nobody walking, no button, and the decay number, whose argument fits.
 use Rattle.line_bounds.proofs.Times.{walked-room}
 use borrow.Author.Tests.{eq-eqb, ne-eqb}
 use native.Mathlib.Omega.{arith}

@@ -1,3 +1,4 @@
+-- `lists::put`. The loop has copied so many numbers; at its end, all.
 use Rattle.lists.proofs.Laws.{Copied, copied-none, copied-more, copied-all}
 use borrow.Author.Needs.{needs}
 use lib.ListN.{length}

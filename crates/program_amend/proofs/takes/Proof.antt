@@ -1,3 +1,4 @@
+-- `program_amend::takes`. No change, too many, and the words left over: the definition asks in the same order.
 use Prim.Native.Nat.{_/_, _<_}
 use Rattle.program_changes.specs.Changes.{changeWords}
 use borrow.Author.Tests.{lt-ltb, le-leb, lt-leb}

@@ -1,3 +1,4 @@
+-- `program_changes::put_heading`. With several changes the number is put between two texts; with one, nothing.
 use Rattle.text.proofs.Laws.{placed-after, placed-nothing}
 use Rattle.text.specs.Text.{ascii}
 use Rattle.program_changes.specs.Changes.{heading}

@@ -1,3 +1,4 @@
+-- `program_make::put_site`. No room in two ways, and room: one test of the definition.
 use Rattle.program_make.specs.Make.{withSite}
 use Rattle.layout.specs.Entries.{entryCount}
 use Prim.Native.Nat.{_+_, _*_}

@@ -1,3 +1,4 @@
+-- `program_make::write_first`. More sites than fit are all there are; else the front of the entries is written.
 use mathlib.Core.Path.{sym}
 use lib.Seq.{length-take-le, take-all}
 use Prim.Native.Nat.{_*_}

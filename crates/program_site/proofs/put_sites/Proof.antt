@@ -1,3 +1,4 @@
+-- `program_site::put_sites`. One site, or another number of them: the number, and the word past it.
 use Rattle.text.proofs.Laws.{placed-after}
 use Rattle.text.specs.Text.{ascii}
 use Rattle.program_site.specs.Site.{sitesText}

@@ -1,3 +1,4 @@
+-- `sheet::put_rest`. Pair, pair and last cells are put one after the other, which is putting them joined.
 use Rattle.layout.specs.Sheet.{pairsFrom}
 use Rattle.lists.proofs.Laws.{over-then}
 use Rattle.sheet_pairs.specs.Cells.{pairCells}

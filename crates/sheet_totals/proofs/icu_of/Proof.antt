@@ -1,3 +1,4 @@
+-- `sheet_totals::icu_of`. The quotient is no more than what is divided, so it fits.
 use Rattle.procedure.specs.Pairs.{icuOf}
 use Rattle.units.specs.Rounding.{up}
 use Rattle.units.proofs.Laws.{up-most}

@@ -1,3 +1,4 @@
+-- `text::put_bytes`. The loop has copied so many bytes; at its end, all.
 use Rattle.lists.proofs.Laws.{Copied, copied-none, copied-more, copied-all}
 use borrow.Author.Needs.{needs}
 use native.Mathlib.Omega.{arith}

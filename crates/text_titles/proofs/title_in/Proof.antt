@@ -1,3 +1,4 @@
+-- `text_titles::title_in`. No title, a title's bytes, and a title that is not well written: the definition's cases.
 use mathlib.Core.Path.{sym, _∙_}
 use borrow.Author.Needs.{needs}
 use Rattle.text_titles.proofs.title_in.Statement.{statement}
