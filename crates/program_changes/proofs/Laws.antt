@@ -11,6 +11,7 @@ use Rattle.answers.specs.declared.Answer.{Answer}
 use Rattle.answers.specs.declared.Answer.the-variants.{Accepted, Refused as No}
 use Rattle.layout.specs.Entries.{entryCount}
 use Rattle.kinds.specs.Kinds.{kindAt}
+use Rattle.kinds.specs.declared.Kind.{Kind}
 use Rattle.entries.specs.Judging.{judged}
 use Rattle.text.specs.Text.{Placed}
 use Rattle.text.proofs.Laws.{placed-after}
@@ -23,6 +24,14 @@ use Rattle.program_changes.specs.declared.Verdict.{Verdict}
 use Rattle.program_changes.specs.declared.Verdict.the-variants.{Made, Refused, NoName, NoEntry, NotValue}
 use Rattle.program_changes.specs.Changes.{verdictBy, verdictFor, verdictOf, verdictIn, entriesAfter, isMade, told, changesTo}
 use Rattle.program_changes.specs.Working.{Came}
+
+-- an entry that is named has the verdict of its value
+pub verdict-named :
+    (title kind value e : List ℕ) {row i : ℕ} {k : Kind} {v : Value} → row ≡ rowOf title → leb titleCount row ≡ false
+    → i ≡ entryNamed title kind → eqb i entryCount ≡ false → k ≡ kindAt i → v ≡ valueOf k value → verdictOf title kind value e ≡ verdictFor i v e
+unfolding verdictOf
+verdict-named title kind value e is-row known is-entry some is-kind is-value =
+    rw (← is-entry, ← is-row, known, some, ← is-kind, ← is-value)
 
 -- one change more
 module _ (several : Bool) (words e : List ℕ) (n : ℕ) where

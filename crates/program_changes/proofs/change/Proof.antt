@@ -1,6 +1,8 @@
 -- Each way to return is a case of the definition: a title, then an entry under it, then the entry's value by its kind.
-use Rattle.program_changes.specs.Changes.{verdictOf}
-use mathlib.Core.Path.{refl}
+use Rattle.program_changes.specs.Changes.{verdictFor, verdictOf}
+use Rattle.program_changes.proofs.Laws.{verdict-named}
+use denote.Ref.{now}
+use mathlib.Core.Path.{_≡_, refl}
 use borrow.Author.Tests.{le-leb, lt-leb, eq-eqb, ne-eqb}
 use borrow.Author.Needs.{needs}
 use Rattle.program_changes.proofs.change.Statement.{statement}
@@ -24,45 +26,25 @@ returns-2 c =
       refl,
     )
 
+-- an entry that is named has the verdict of its value
+named-at : (read : tie.After-value-of)
+    → let a = read .before .before .before .before .before .before .before .before .before .args in
+    verdictOf (now (a .title)) (now (a .kind)) (now (a .value)) (now (a .entries))
+    ≡ verdictFor (read .before .before .before .entry-named .result) (read .value-of .result) (now (a .entries))
+named-at read =
+    let found = read .before .before in
+    let named = found .before in
+    let test = named .before in
+    verdict-named _ _ _ _ (test .before .row-of .ensures .0) (lt-leb _ _ (test .if1 .left)) (named .entry-named .ensures .0)
+    (ne-eqb _ _ (found .if2 .left)) (read .before .at .ensures) (read .value-of .ensures)
+
 returns-3 : tie.Need-returns-3
-unfolding verdictOf
 returns-3 c =
     let told = c .before .before .before in
-    let read = told .before .before in
-    let found = read .before .before in
-    let named = found .before in
-    let test = named .before in (
-      rw (
-        ← named .entry-named .ensures .0,
-        ← test .before .row-of .ensures .0,
-        lt-leb _ _ (test .if1 .left),
-        ne-eqb _ _ (found .if2 .left),
-        ← read .before .at .ensures,
-        ← read .value-of .ensures,
-        told .word .given .1,
-      ) (c .try-entry .ensures .0),
-      c .try-entry .ensures .1,
-    )
+    (rw (named-at (told .before .before), told .word .given .1) (c .try-entry .ensures .0), c .try-entry .ensures .1)
 
 returns-4 : tie.Need-returns-4
-unfolding verdictOf
-returns-4 c =
-    let told = c .before in
-    let read = told .before .before in
-    let found = read .before .before in
-    let named = found .before in
-    let test = named .before in (
-      rw (
-        ← named .entry-named .ensures .0,
-        ← test .before .row-of .ensures .0,
-        lt-leb _ _ (test .if1 .left),
-        ne-eqb _ _ (found .if2 .left),
-        ← read .before .at .ensures,
-        ← read .value-of .ensures,
-        told .word2 .given .1,
-      ),
-      refl,
-    )
+returns-4 c = (rw (named-at (c .before .before .before), c .before .word2 .given .1), refl)
 
 pub change-spec : {M : Type 1} → statement M
 change-spec =
