@@ -149,6 +149,13 @@ def weighted(leg, time):
     return leg.lost[T] + without + up((with_peds - without) * leg.line[12], 10000)
 
 
+def nobody_driving(leg):
+    """What those who cross take where nobody drives; none without through lanes or without pedestrians."""
+    if leg.n[T] == 0 or leg.p == 0:
+        return 0
+    return weighted(leg, 0)
+
+
 def single(leg):
     """One lane for everything, and lefts among what stands in it."""
     return leg.n == [0, 1, 0] and leg.shared == 1 and leg.v[L] > 0
@@ -253,7 +260,7 @@ def line_16(leg):
 
 def line_17(leg):
     """Adjusted time of T."""
-    return weighted(leg, leg.line[14]) if leg.line[2] > 0 else 0
+    return weighted(leg, leg.line[14]) if leg.line[2] > 0 else nobody_driving(leg)
 
 
 def line_18(leg):
@@ -371,8 +378,10 @@ def line_25(leg):
 
 def line_26(leg):
     """Line 25 weighted."""
-    if empty(leg) or leg.line[25] == BLANK:
-        return leg.line[25]
+    if empty(leg):
+        return nobody_driving(leg)
+    if leg.line[25] == BLANK:
+        return BLANK
     return weighted(leg, leg.line[25])
 
 
@@ -386,7 +395,7 @@ def line_27(leg):
 
 def line_28(leg):
     """Line 27 weighted."""
-    return 0 if empty(leg) else weighted(leg, leg.line[27])
+    return nobody_driving(leg) if empty(leg) else weighted(leg, leg.line[27])
 
 
 LINES = (line_1, line_2, line_3, line_4, line_5, line_6, line_7, line_8, line_9, line_10,

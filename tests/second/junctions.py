@@ -111,7 +111,7 @@ def odd_legs():
             approach((0, 0), (3, 1400), (0, 120)), NOTHING,
             approach((1, 180), (2, 900)), NOTHING)),
         ("lefts only, no through lane", junction(
-            approach(left=(2, 300), lost=(5000, 6000, 4000), minimum=(4000, 7000, 4000)),
+            approach(left=(2, 300), lost=(5000, 6000, 4000), minimum=(4000, 7000, 4000), peds=45),
             approach(through=(1, 80), right=(1, 50)), PLAIN, PLAIN)),
         ("lefts only, beside an idle through lane", junction(
             approach(left=(1, 59), through=(1, 0), peds=35, ped_time=20000),
@@ -121,7 +121,23 @@ def odd_legs():
             approach(through=(1, 500)), NOTHING)),
         ("pedestrians at a leg where nobody drives", junction(
             approach(through=(1, 0), peds=300, ped_time=30000), NOTHING, PLAIN, PLAIN)),
+        ("pedestrians where nobody drives, without time or lanes", junction(
+            approach(through=(2, 0), peds=1, lost=0, minimum=0, ped_time=0),
+            approach(left=(1, 0), peds=300, ped_time=30000),
+            approach(through=(1, 0), right=(1, 90), peds=80, button=0, lost=0, minimum=0, ped_time=500),
+            approach(left=(0, 0), through=(1, 0), shared=1, peds=12, ped_time=3000, minimum=6000))),
     ]
+
+
+def closed_legs():
+    """A T junction whose fourth leg is closed, where people still cross: without a button and with one."""
+    def tee(button):
+        return junction(
+            approach(through=(1, 400), right=(1, 90)), approach(left=(1, 100), through=(1, 450)),
+            approach(left=(1, 150), right=(1, 120)),
+            approach(through=(1, 0), peds=60, button=button, ped_time=20000))
+
+    return [("a closed leg, no button", tee(0)), ("a closed leg, a button", tee(1))]
 
 
 def shared_lanes():
@@ -292,7 +308,7 @@ def refused():
 
 def all_junctions():
     """All (name, entries), in the order they are run."""
-    parts = (k_junctions, book_examples, odd_legs, shared_lanes, oncoming_single, large,
+    parts = (k_junctions, book_examples, odd_legs, closed_legs, shared_lanes, oncoming_single, large,
              cycles_and_flows, pedestrians, right_turns, picks, letters, refused)
     return [named for part in parts for named in part()]
 

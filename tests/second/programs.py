@@ -266,7 +266,7 @@ def usage(b):
 
 
 def samples(b):
-    """The ten junctions: texts to a study and back, their sheets, and a change of each."""
+    """The twelve junctions: texts to a study and back, their sheets, and a change of each."""
     texts = [os.path.join(SAMPLES, name + ".txt") for name in NAMES]
     for folder in (SAMPLES, b.folder):
         table.main(b.folder)
@@ -275,16 +275,16 @@ def samples(b):
                 with open(os.path.join(folder, name + kind), "rb") as f:
                     b.same(name + kind, f.read(), b.get(name + kind))
     sites = [entries for _, entries in table.samples()]
-    study = b.path("ten.icus")
+    study = b.path("twelve.icus")
     b.same("make", b.run("icustudy", "make", study, *texts), (b"", b""))
-    b.same("study", b.get("ten.icus"), study_of(sites))
+    b.same("study", b.get("twelve.icus"), study_of(sites))
     for number, name in enumerate(NAMES, 1):
         b.same("typed " + name, b.run("icusheet", texts[number - 1]), (b.get(name + ".sheet"), b""))
         b.same("site " + name, b.run("icusheet", study, str(number)), table.site_alone(study.encode(), sites, number))
         b.same("text " + name, b.run("icustudy", "show", study, str(number)), (b.get(name + ".full"), b""))
         words = b.get(name + ".amend").decode().split()
         b.same("change " + name, b.run("icuamend", study, str(number), *words), (b.get(name + ".changes"), b""))
-    b.same("all ten", b.run("icusheet", study, "all"), all_pages(study, sites))
+    b.same("all twelve", b.run("icusheet", study, "all"), all_pages(study, sites))
     # the sample study's last site is refused: a cycle of 29 s
     with open(os.path.join(os.path.dirname(SAMPLES), "study.icus"), "rb") as f:
         data = f.read()

@@ -122,7 +122,7 @@ def check_book_examples():
 
 
 def check_named():
-    check("at most 60", len(junctions.all_junctions()) <= 60, True)
+    check("at most what the program reads", len(junctions.all_junctions()) <= 65536 // 324, True)
     for name, at, wanted in (
             ("lefts only, no through lane", 196, 1), ("permitted ties with split", 196, 1),
             ("permitted picked, by option B and by option A", 196, 1),
@@ -146,6 +146,27 @@ def check_named():
         "all lefts, both single: a left worth less than a through"), EB, 21)[0] < 10000, True)
     check("G without right volume", [x > 0 for x in lines(sheet_of(
         "right lanes without right volume, pedestrians"), EB, 10, 15)], [True, False])
+
+
+def check_closed_legs():
+    for name, crossing, pair, required in (
+            ("a closed leg, no button", 24000, [37973, 24000, 37973, 1], 63913),
+            ("a closed leg, a button", 21836, [35809, 21973, 35809, 1], 61886)):
+        sheet = sheet_of(name)
+        check(name, lines(sheet, SB, 14, 17, 25, 26, 27, 28), [0, crossing, 0, crossing, 0, crossing])
+        check(name + ", pair", sheet[197:201], pair)
+        check(name + ", required", sheet[206], required)
+        for entry in (76, 50):  # without pedestrians, without through lanes
+            sheet = fill(junctions.changed(NAMED[name], {entry: 0}))
+            check(name + ", nobody", lines(sheet, SB, 17, 26, 28), [0, 0, 0])
+            check(name + ", pair of nobody", sheet[197:201], [13973, 21973, 13973, 0])
+    sheet = sheet_of("pedestrians where nobody drives, without time or lanes")
+    check("no time at all", lines(sheet, EB, 17, 26, 28), [0, 0, 0])
+    check("no through lane", lines(sheet, WB, 17, 26, 28), [0, 0, 0])
+    check("rights beside it", lines(sheet, NB, 17, 26, 28), [500, 500, 500])
+    check("a shared lane, the minimum", lines(sheet, SB, 17, 26, 28), [10000, 10000, 10000])
+    sheet = sheet_of("lefts only, beside an idle through lane")
+    check("lefts alone", lines(sheet, EB, 17)[0] > 0, True)
 
 
 def check_refusals():
@@ -288,6 +309,11 @@ def again_stretch(x, ref):
     return x["tLT"] + up_to(plain * (1 - x["freq"]) + max(plain, x["tPed"]) * x["freq"], MS)
 
 
+def again_walked(x):
+    """People cross through lanes here, whether or not anybody drives."""
+    return x["nT"] * x["ped"] > 0
+
+
 def again_protected(x):
     """Lines 13 to 18."""
     for g in "LTR":
@@ -296,7 +322,7 @@ def again_protected(x):
             passing = up_to(x["vC" + g] * x["CL"] / x["s" + g], MS)
             x["ref" + g] = passing + x.get("intf" + g, 0)
             x["adj" + g] = x["tL" + g] + max(x["tMin" + g], x["ref" + g])
-    if x["vCT"]:
+    if x["vCT"] or again_walked(x):
         x["adjT"] = again_stretch(x, x["refT"])
 
 
@@ -344,7 +370,8 @@ def again_permitted_split(x, o):
     own = again_left_lane(x, o, "L", 1)
     a_l, x["own"] = own[4], [own[0], own[2] * 10000, own[3]]
     if not x["vCL"] and not x["vCT"]:
-        x["A"] = x["B"] = x["perm"] = x["adjPerm"] = x["split"] = x["adjSplit"] = Fraction(0)
+        x["A"] = x["B"] = x["perm"] = x["split"] = Fraction(0)
+        x["adjPerm"] = x["adjSplit"] = again_stretch(x, 0) if again_walked(x) else Fraction(0)
         return
     x["A"] = max(a_t, a_l) if x["vL"] < 60 or again_single(o) else None
     x["B"] = again_option_b(x) if o["vST"] <= 120 else None
@@ -673,7 +700,7 @@ def check_values(rounds):
 
 def main(rounds):
     for part in (check_k1_k2, check_k3_to_k10, check_listing, check_letters, check_layout,
-                 check_book_examples, check_named, check_refusals, check_decay,
+                 check_book_examples, check_named, check_closed_legs, check_refusals, check_decay,
                  check_amend_answers, check_study_places, check_study_write):
         part()
     check_again(rounds)

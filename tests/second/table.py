@@ -367,6 +367,8 @@ AMENDMENTS = {
     "k10": "EBL volume 59",
     "book1": "NBR volume 150",
     "book2": "EB free-right 1",
+    "closed": "SB push-button 1",
+    "button": "SB pedestrians 0",
 }
 
 TITLES = {
@@ -380,12 +382,14 @@ TITLES = {
     "k10": "K10: K1 with 60 lefts eastbound",
     "book1": "The book's first example",
     "book2": "The book's second example",
+    "closed": "A T junction: people cross at the closed leg, no button",
+    "button": "A T junction: people cross at the closed leg, a button",
 }
 
 
 def samples():
-    """(name, entries) of the ten junctions."""
-    named = junctions.k_junctions() + junctions.book_examples()
+    """(name, entries) of the twelve junctions."""
+    named = junctions.k_junctions() + junctions.book_examples() + junctions.closed_legs()
     return list(zip(TITLES, (entries for _, entries in named)))
 
 

@@ -21,6 +21,7 @@ use Rattle.procedure.specs.Sheet.{sheet}
 use Rattle.procedure.specs.Junctions.{workedOut, given}
 use Rattle.procedure.proofs.Compared.{compared}
 use Rattle.line_bounds.proofs.Permitted.{Refused as BlankMeans, lines-refused}
+use Rattle.line_bounds.proofs.Crossing as crossing
 use Rattle.sheet_cells.specs.Cells.{sheetAnswer}
 use Rattle.sheet.proofs.Fits.{sheet-fits}
 use Rattle.sheet.proofs.PairBlank.{PairBlank, pair-blank}
@@ -107,6 +108,12 @@ acceptable-only = outcomes.acceptable-only
 -- .. and an accepted fill leaves the procedure, line by line: the 209 cells of `sheet e`.
 pub filled-sheet : {one : IcuAnswer} {left : List ℕ} (e d : List ℕ) → fillAllows e d one left → Yes one → left ≡ sheet e
 filled-sheet = outcomes.filled-sheet
+
+-- Where nobody drives people still have time to cross: a T group without volume has reference time 0, and so have lines 25 and 27
+-- of an approach without L and T; lines 17, 26 and 28 are then the weighted formula's, of a reference time of 0, where there are
+-- through lanes and pedestrians, and else 0.
+pub nobody-drives : (s o : Approach) (CL : ℕ) → crossing.NobodyDrives s o CL
+nobody-drives s o CL = crossing.nobody-drives s CL o
 
 -- On acceptable entries no time reaches BLANK: lines 23 to 26 are BLANK only where the options are not allowed ..
 pub blank-only-where-refused : (s o : Approach) (CL : ℕ) → Fair s → FairCycle CL → BlankMeans s o CL

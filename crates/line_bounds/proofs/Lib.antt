@@ -3,4 +3,5 @@ pub mod Flows
 pub mod Times
 pub mod LeftLane
 pub mod Permitted
+pub mod Crossing
 pub mod Lines

@@ -18,13 +18,13 @@ use Rattle.procedure.specs.declared.Approach.{Approach}
 use Rattle.procedure.specs.Approach.{n, v, i, isShared}
 use Rattle.procedure.specs.Ranges.{Fair, FairCycle}
 use Rattle.procedure.specs.Lines.{a, b, volume, vC, vST, fT, flowOf, flow, sST}
-use Rattle.procedure.specs.Lines.{sSL, interference, time, weighted, vLL, leftShare, sA, optionAOf, leftA, optionA}
+use Rattle.procedure.specs.Lines.{sSL, interference, time, weighted, nobodyDriving, vLL, leftShare, sA, optionAOf, leftA, optionA}
 use Rattle.procedure.specs.Lines.{allowedA, allowedB, empty, line23, line24, line25, line26, sB, waiting, throughB, optionB, lesser}
 use Rattle.line_bounds.specs.Bounds.{mostVolume, leastStraight, mostServed, mostHeld}
 use Rattle.line_bounds.specs.Bounds.{mostMixedServed, mostAdded, mostOption, mostPermitted, Timely}
 use Rattle.line_bounds.proofs.Numbers.{up-covers, shared-out, part-most}
 use Rattle.line_bounds.proofs.Flows.{volumes, turning-between, straight-between, straight-alike, group-serving}
-use Rattle.line_bounds.proofs.Times.{time-most, passes-most, straight-passes, lefts-pass, interference-most, weighed-added}
+use Rattle.line_bounds.proofs.Times.{time-most, passes-most, straight-passes, lefts-pass, interference-most, weighed-added, nobody-most}
 use Rattle.line_bounds.proofs.LeftLane.{carries, carried, share-within}
 
 -- ---- what option B takes off
@@ -136,9 +136,11 @@ pub record Weighed (x cell : ℕ) : Type 0 where
   pub timely : Timely mostPermitted cell
   pub blank : cell ≡ BLANK → x ≡ BLANK
 
-weighed-cell : (none : Bool) (x y : ℕ) → Timely mostOption x → y ≤ x + mostAdded → Weighed x (cond none 0 (cond (eqb x BLANK) BLANK y))
-weighed-cell true x y h k = record { timely = λ not-blank. omega arith; blank = λ blank. absurd (omega arith) }
-weighed-cell false x y h k = go (eqb x BLANK) refl
+weighed-cell :
+    (none : Bool) (w x y : ℕ) → w ≤ mostAdded → Timely mostOption x → y ≤ x + mostAdded
+    → Weighed x (cond none w (cond (eqb x BLANK) BLANK y))
+weighed-cell true w x y l h k = record { timely = λ not-blank. omega arith; blank = λ blank. absurd (omega arith) }
+weighed-cell false w x y l h k = go (eqb x BLANK) refl
   where
     go : (t : Bool) → eqb x BLANK ≡ t → Weighed x (cond t BLANK y)
     go true e = record { timely = λ not-blank. absurd (not-blank refl); blank = λ blank. eqb-true x BLANK e }
@@ -228,7 +230,9 @@ module _ (s : Approach) (CL : ℕ) (fair : Fair s) (cycle : FairCycle CL) where
 
     pub line26-weighed : Weighed (line25 s o CL) (line26 s o CL)
     unfolding line26
-    line26-weighed = weighed-cell (empty s) (line25 s o CL) (weighted s CL (line25 s o CL)) line25-timely (weighed-added s CL fair (line25 s o CL))
+    line26-weighed =
+        weighed-cell (empty s) (nobodyDriving s CL) (line25 s o CL) (weighted s CL (line25 s o CL)) (nobody-most s CL fair)
+        line25-timely (weighed-added s CL fair (line25 s o CL))
 
     -- every one of them fits 32 bits
     pub permitted-fit : (line23 s o CL ≤ BLANK) × (line24 s o CL ≤ BLANK) × (line25 s o CL ≤ BLANK) × (line26 s o CL ≤ BLANK)

@@ -19,7 +19,7 @@ use Rattle.line_decay.proofs.Laws.{decay-most}
 use Rattle.procedure.specs.declared.Approach.{Approach}
 use Rattle.procedure.specs.Approach.{n, v, p, lost, green, crossing, hasButton}
 use Rattle.procedure.specs.Lines.{volume, vC, vST, flow, sST, sSL, G, interference, frequency, F, time, reference, adjustedOf, weightedOf, weighted, adjusted}
-use Rattle.procedure.specs.Lines.{empty, line27, line28}
+use Rattle.procedure.specs.Lines.{crossed, nobodyDriving, empty, line27, line28}
 use Rattle.procedure.specs.Ranges.{Fair, FairCycle}
 use Rattle.line_bounds.specs.Bounds.{mostVolume, mostServed, Passes, mostHeld, mostTime, mostReference, mostAdded, mostAdjusted}
 use Rattle.line_bounds.proofs.Numbers.{chosen-most, part-most}
@@ -123,6 +123,11 @@ module _ (s : Approach) (CL : ℕ) where
         let through = ok .group Through in
         weighted-added (lost s Through) (green s Through) (crossing s) (F s CL) x (through .lost .most) (through .green .most) (ok .crossing .most) F-most
 
+    -- and where nobody drives
+    pub nobody-most : nobodyDriving s CL ≤ mostAdded
+    unfolding nobodyDriving
+    nobody-most = chosen-most (crossed s) (λ walked. weighed-added 0) (λ none. omega arith)
+
     turn-added : (g : Group) (x : ℕ) → adjustedOf (lost s g) (green s g) x ≤ x + mostAdded
     turn-added g x = adjusted-added (lost s g) (green s g) x (ok .group g .lost .most) (ok .group g .green .most)
 
@@ -153,7 +158,9 @@ module _ (s : Approach) (CL : ℕ) where
       pub adjusted-most : (g : Group) → adjusted s g CL ≤ mostAdjusted
       unfolding adjusted
       adjusted-most Left = part-most (volume s Left) (λ some. omega (arith, turn-added Left (reference s Left CL), reference-most Left))
-      adjusted-most Through = part-most (vC s) (λ some. omega (arith, weighed-added (reference s Through CL), reference-most Through))
+      adjusted-most Through =
+          chosen-most (eqb (vC s) 0) (λ none. omega (arith, nobody-most))
+          (λ some. omega (arith, weighed-added (reference s Through CL), reference-most Through))
       adjusted-most Right = part-most (volume s Right) (λ some. omega (arith, turn-added Right (reference s Right CL), reference-most Right))
 
       -- 27, 28
@@ -168,4 +175,4 @@ module _ (s : Approach) (CL : ℕ) where
 
       pub line28-most : line28 s CL ≤ mostAdjusted
       unfolding line28
-      line28-most = chosen-most (empty s) (λ none. omega arith) (λ some. omega (arith, weighed-added (line27 s CL), line27-most))
+      line28-most = chosen-most (empty s) (λ none. omega (arith, nobody-most)) (λ some. omega (arith, weighed-added (line27 s CL), line27-most))

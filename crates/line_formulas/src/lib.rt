@@ -2,13 +2,12 @@
 ghost use mathlib.Core.Path.{_≡_};
 ghost use Prim.Native.Nat.{_*_, _+_, _≤_, max};
 ghost use Rattle.units.specs.Unit.{flowUnit, whole};
-ghost use Rattle.kinds.specs.declared.Group.the-variants.{Through};
 ghost use Rattle.kinds.specs.declared.Kind.the-variants.{LostTime, MinimumGreen, Cycle as CycleKind};
 ghost use Rattle.kinds.specs.Working.{mostOf};
-ghost use Rattle.procedure.specs.Approach.{lost, green, crossing};
-ghost use Rattle.procedure.specs.Lines.{time, part, adjustedOf, weightedOf};
+ghost use Rattle.procedure.specs.Lines.{time, part, adjustedOf, crossed};
 ghost use Rattle.procedure.specs.Ranges.{Fair};
 ghost use Rattle.line_bounds.specs.Bounds.{mostVolume, mostHeld, mostMixed, mostMixedServed, mostReference, mostOption, Passes};
+ghost use Rattle.line_formulas.specs.Working.{weighedBy, nobodyBy};
 use kinds::Cycle;
 use procedure::Approach;
 use units::Flow;
@@ -63,10 +62,31 @@ pub fn adjust(lost: Ms, minimum: Ms, reference: Ms) -> Ms
 // The same of an approach's through, with the time that walkers need, weighted by how often they come.
 pub fn weigh(s: Approach, frequency: u32, reference: Ms) -> Ms
     requires { ⌜ Fair s × (frequency ≤ whole) × (reference .0 ≤ mostOption) ⌝ }
-    ensures { λ r. ⌜ r .0 ≡ weightedOf (lost s Through) (green s Through) (crossing s) frequency (reference .0) ⌝ }
+    ensures { λ r. ⌜ r .0 ≡ weighedBy s frequency (reference .0) ⌝ }
 {
     let a = larger(s.through.green.0, reference);
     let b = larger(a, s.crossing.0);
     let walking = units::divide_up((b.0 - a.0) as u64 * frequency as u64, WHOLE);
     Ms(s.through.lost.0.0 + a.0 + walking as u32)
+}
+
+// Whether people cross here: there are through lanes, and pedestrians.
+fn is_crossed(s: Approach) -> bool
+    ensures { λ r. ⌜ r ≡ crossed s ⌝ }
+{
+    if s.through.lanes.0 == 0 {
+        return false;
+    }
+    0 < s.walkers.0
+}
+
+// Where nobody drives: the time of those who cross, weighed as any other from a reference time of 0.
+pub fn weigh_nobody(s: Approach, frequency: u32) -> Ms
+    requires { ⌜ Fair s × (frequency ≤ whole) ⌝ }
+    ensures { λ r. ⌜ r .0 ≡ nobodyBy s frequency ⌝ }
+{
+    if is_crossed(s) {
+        return weigh(s, frequency, Ms(0));
+    }
+    Ms(0)
 }

@@ -6,12 +6,11 @@ ghost use lib.Dec.{eqb};
 ghost use Rattle.units.specs.Rounding.{up};
 ghost use Rattle.units.specs.Unit.{flowUnit, whole};
 ghost use Rattle.layout.specs.Sheet.{BLANK};
-ghost use Rattle.kinds.specs.declared.Group.the-variants.{Through};
-ghost use Rattle.procedure.specs.Approach.{lost, green, crossing};
 ghost use Rattle.procedure.specs.Ranges.{Fair, FairCycle};
 ghost use Rattle.procedure.specs.Lines.{part, time, allowedA, empty, equivalent, flowA, optionAOf, optionA};
-ghost use Rattle.procedure.specs.Lines.{sB, waiting, throughB, optionB, lesser, weightedOf};
+ghost use Rattle.procedure.specs.Lines.{sB, waiting, throughB, optionB, lesser};
 ghost use Rattle.line_bounds.specs.Bounds.{mostVolume, leastLaneFlow, mostHeld, mostMixed, mostMixedServed, mostOption, Passes, Timely};
+ghost use Rattle.line_formulas.specs.Working.{weighedBy};
 ghost use Rattle.line_stages.specs.Stages.{volumesOf, flowsOf, firstOf, meetingOf, leftLaneOf, permittedOf};
 use kinds::Cycle;
 use kinds::Lanes;
@@ -169,7 +168,7 @@ fn lesser_of(a: Ms, b: Ms) -> Ms
 // Line 26 of an approach that has volume.
 fn weigh_if_allowed(s: Approach, frequency: u32, reference: Ms) -> Ms
     requires { ⌜ Fair s × (frequency ≤ whole) × Timely mostOption (reference .0) ⌝ }
-    ensures { λ r. ⌜ r .0 ≡ cond (eqb (reference .0) BLANK) BLANK (weightedOf (lost s Through) (green s Through) (crossing s) frequency (reference .0)) ⌝ }
+    ensures { λ r. ⌜ r .0 ≡ cond (eqb (reference .0) BLANK) BLANK (weighedBy s frequency (reference .0)) ⌝ }
 {
     if reference.0 == NOT_ALLOWED.0 {
         return NOT_ALLOWED;
@@ -194,7 +193,7 @@ pub fn permitted_of(
             a: Ms(0),
             b: Ms(0),
             lesser: Ms(0),
-            weighted: Ms(0),
+            weighted: line_formulas::weigh_nobody(s, x.walking.frequency),
         };
     }
     let a = option_a(s, o, x, m, lane, cycle);

@@ -27,16 +27,17 @@ fn largest_of(s: Approach, x: First, cycle: Cycle) -> Ms
     line_formulas::larger(x.times.through, line_formulas::larger(straight, lefts))
 }
 
-// Lines 27 and 28.
+// Lines 27 and 28; where nobody drives line 28 is for those who cross.
 pub fn split_of(s: Approach, x: First, cycle: Cycle) -> Split
     requires { ⌜ Fair s × (x ≡ firstOf s (cycle .0)) × FairCycle (cycle .0) ⌝ }
     ensures { λ r. ⌜ r ≡ splitOf s (cycle .0) ⌝ }
 {
     let largest = largest_of(s, x, cycle);
     if x.volumes.left.0 + x.volumes.through.0 == 0 {
+        let crossing = line_formulas::weigh_nobody(s, x.walking.frequency);
         return Split {
             largest,
-            weighted: Ms(0),
+            weighted: crossing,
         };
     }
     Split {

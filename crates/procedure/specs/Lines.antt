@@ -87,7 +87,7 @@ F s CL = frequency (p s) (hasButton s) CL
 unfoldable pub time : ℕ → ℕ → ℕ → ℕ
 time v CL flow = up (1000 * flowUnit * v * CL) flow
 
--- "A part without volume is 0 in lines 13–28"
+-- "A part without volume is 0 in lines 13–28", but for 17, 26 and 28 where people cross (below)
 abbrev pub part : ℕ → ℕ → ℕ
 part v x = cond (eqb v 0) 0 x
 
@@ -110,9 +110,18 @@ weightedOf lost minimum crossing F reference =
 unfoldable pub weighted : Approach → ℕ → ℕ → ℕ
 weighted s CL reference = weightedOf (lost s Through) (green s Through) (crossing s) (F s CL) reference
 
+-- Request One, where nobody drives: "through lanes, .. and pedestrians above 0"
+unfoldable pub crossed : Approach → Bool
+crossed s = ltb 0 (n s Through) && ltb 0 (p s)
+
+-- "has reference time 0 and takes its adjusted time by the weighted formula in line 17";
+-- "Without pedestrians, or without through lanes, all stay 0."
+unfoldable pub nobodyDriving : Approach → ℕ → ℕ
+nobodyDriving s CL = cond (crossed s) (weighted s CL 0) 0
+
 unfoldable pub adjusted : Approach → Group → ℕ → ℕ
 adjusted s Left CL = part (volume s Left) (adjustedOf (lost s Left) (green s Left) (reference s Left CL))
-adjusted s Through CL = part (volume s Through) (weighted s CL (reference s Through CL))
+adjusted s Through CL = cond (eqb (vC s) 0) (nobodyDriving s CL) (weighted s CL (reference s Through CL))
 adjusted s Right CL = part (volume s Right) (adjustedOf (lost s Right) (green s Right) (reference s Right CL))
 
 -- 19 "vLL = max(vlT, ⌈(4vlT+vC)/n⌉ − 4vlT), where vlT is b"
@@ -170,8 +179,8 @@ allowedA s o = ltb (v s Left) 60 || single o
 unfoldable pub allowedB : Approach → Bool
 allowedB o = leb (vST o) 120
 
--- "an approach whose L and T are 0 has 0 in 23–28; BLANK goes before these in 23 and 24 where an option is not allowed
--- and L or T has volume"
+-- "an approach whose L and T are 0 has 0 in 23–28", but for 26 and 28 where people cross; "BLANK goes before these in 23 and 24
+-- where an option is not allowed and L or T has volume"
 unfoldable pub empty : Approach → Bool
 empty s = eqb (volume s Left) 0 && eqb (vC s) 0
 
@@ -210,9 +219,9 @@ lesser x y = cond (eqb x BLANK) y (cond (eqb y BLANK) x (min x y))
 unfoldable pub line25 : Approach → Approach → ℕ → ℕ
 line25 s o CL = lesser (line23 s o CL) (line24 s o CL)
 
--- 26 "line 25 weighted as line 17; BLANK if 25 is"
+-- 26 "line 25 weighted as line 17; BLANK if 25 is"; Request One: an approach "with L and T both 0 takes 26 and 28 the same way"
 unfoldable pub line26 : Approach → Approach → ℕ → ℕ
-line26 s o CL = unless-empty s (cond (eqb (line25 s o CL) BLANK) BLANK (weighted s CL (line25 s o CL)))
+line26 s o CL = cond (empty s) (nobodyDriving s CL) (cond (eqb (line25 s o CL) BLANK) BLANK (weighted s CL (line25 s o CL)))
 
 -- 27 "the largest of line 14, 1000·vST·CL/sST up + line 11, and 1000·vL·CL/sSL up"
 unfoldable pub line27 : Approach → ℕ → ℕ
@@ -220,9 +229,9 @@ line27 s CL =
     max (reference s Through CL)
     (max (part (vST s) (time (vST s) CL (sST s) + interference s Through CL)) (part (v s Left) (time (v s Left) CL (sSL s))))
 
--- 28 "line 27 weighted"
+-- 28 "line 27 weighted", and as 26 where nobody drives
 unfoldable pub line28 : Approach → ℕ → ℕ
-line28 s CL = unless-empty s (weighted s CL (line27 s CL))
+line28 s CL = cond (empty s) (nobodyDriving s CL) (weighted s CL (line27 s CL))
 
 -- lines 1–18, which look at the approach alone
 unfoldable pub firstLines : Approach → ℕ → List ℕ

@@ -171,6 +171,25 @@ fn approach(rng: &mut Rng, e: &mut Entries, a: usize, busy: u32) {
     }
 }
 
+/// People cross and nobody goes straight on: with lefts or without, with through lanes or without, now and then in no time at all.
+fn closed_leg(rng: &mut Rng, e: &mut Entries, a: usize) {
+    let (at, own) = (15 * a, 60 + 5 * a);
+    let lefts = rng.once_in(3);
+    for (turn, lanes) in [u32::from(lefts), rng.within(0, 2), 0].into_iter().enumerate() {
+        e[at + 5 * turn] = lanes;
+        e[at + 5 * turn + 1] = 0;
+        if rng.once_in(3) {
+            e[at + 5 * turn + 3..at + 5 * turn + 5].fill(0);
+        }
+    }
+    if lefts {
+        e[at + 1] = rng.within(0, 200);
+    }
+    e[own] = 0;
+    e[own + 1] = rng.pick(&[0, 1, 7, 60, 300, 2_000]);
+    e[own + 3] = rng.pick(&[0, 500, 4_000, 16_000, 60_000]);
+}
+
 fn copy_approach(e: &mut Entries, from: usize, to: usize) {
     e.copy_within(15 * from..15 * from + 15, 15 * to);
     e.copy_within(60 + 5 * from..65 + 5 * from, 60 + 5 * to);
@@ -230,6 +249,10 @@ pub fn acceptable(rng: &mut Rng) -> Entries {
         approach(rng, &mut e, a, busy);
     }
     e[CYCLE] = usual(rng, 10);
+    if rng.once_in(6) {
+        let a = rng.below(4);
+        closed_leg(rng, &mut e, a);
+    }
     match rng.below(8) {
         // Equal approaches bring equal totals, where the earlier must win.
         0 => (1..4).for_each(|a| copy_approach(&mut e, 0, a)),

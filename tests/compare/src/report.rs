@@ -18,6 +18,7 @@ pub struct Tally {
     letters: [u64; 8],
     picked: [u64; 3],
     blanks: [u64; 2],
+    crossed: [u64; 2],
 }
 
 impl Tally {
@@ -36,6 +37,10 @@ impl Tally {
                 let cell = sheet[FIRST_LINE + LINES * a + 22 + option];
                 self.blanks[option] += u64::from(cell == BLANK);
             }
+            let line = |k: usize| sheet[FIRST_LINE + LINES * a + k - 1];
+            let crossed = line(2) == 0 && line(17) > 0;
+            self.crossed[0] += u64::from(crossed && line(1) > 0);
+            self.crossed[1] += u64::from(crossed && line(1) == 0);
         }
     }
 
@@ -54,6 +59,7 @@ impl Tally {
         println!("letters A to H: {:?}", self.letters);
         println!("picked protected, permitted, split: {:?}", self.picked);
         println!("BLANK in lines 23, 24: {:?}", self.blanks);
+        println!("crossed with lefts alone, with nobody driving: {:?}", self.crossed);
     }
 }
 

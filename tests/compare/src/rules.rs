@@ -372,6 +372,14 @@ impl Own {
     fn empty(&self) -> bool {
         self.volumes.left + self.volumes.through == 0
     }
+
+    /// Where nobody drives: what those who walk across through lanes take.
+    fn crossing(&self) -> u64 {
+        match (self.entries.through.lanes, self.entries.walkers) {
+            (0, _) | (_, 0) => 0,
+            _ => self.weighted(0),
+        }
+    }
 }
 
 /// Lost time and the longer of reference and minimum; nothing without volume.
@@ -392,7 +400,7 @@ fn first_lines(x: &Own, cycle: u64, line: &mut [u32; LINES]) {
         _ => green(v.right, cycle, f.right) + w.right,
     };
     let through_adjusted = match v.through {
-        0 => 0,
+        0 => x.crossing(),
         _ => x.weighted(through),
     };
     let found = [
@@ -500,6 +508,8 @@ fn later_lines(x: &Own, across: &Oncoming, cycle: u64, line: &mut [u32; LINES]) 
     }
     if x.empty() {
         line[22..].fill(0);
+        line[25] = x.crossing() as u32;
+        line[27] = line[25];
         return;
     }
     let vl = x.entries.left.volume;

@@ -112,3 +112,46 @@ fn the_papers_listing() {
         format!("file R6 {}\n", file.len()).as_bytes()
     );
 }
+
+/// A T junction whose southbound leg is closed, and people cross there.
+fn closed_leg(button: u32) -> [u32; ENTRIES] {
+    let lanes_and_volumes = [
+        [(0, 0), (1, 400), (1, 90)],
+        [(1, 100), (1, 450), (0, 0)],
+        [(1, 150), (0, 0), (1, 120)],
+        [(0, 0), (1, 0), (0, 0)],
+    ];
+    let mut e = k1();
+    for (a, turns) in lanes_and_volumes.into_iter().enumerate() {
+        for (turn, (lanes, volume)) in turns.into_iter().enumerate() {
+            e[15 * a + 5 * turn] = lanes;
+            e[15 * a + 5 * turn + 1] = volume;
+        }
+    }
+    e[75..80].copy_from_slice(&[0, 60, button, 20_000, 0]);
+    e
+}
+
+#[test]
+fn nobody_drives_and_people_cross() {
+    for (button, crossing, pair, required) in [
+        (0, 24_000, [37_973, 24_000, 37_973, 1], 63_913),
+        (1, 21_836, [35_809, 21_973, 35_809, 1], 61_886),
+    ] {
+        let s = sheet(&closed_leg(button));
+        let lines = [14, 17, 25, 26, 27, 28].map(|k| line(&s, 3, k));
+        assert_eq!(lines, [0, crossing, 0, crossing, 0, crossing]);
+        assert_eq!(s[PAIRS + 4..PAIRS + 8], pair);
+        assert_eq!(s[LAST + 5], required);
+    }
+    // without pedestrians, or without through lanes, all stay 0
+    for change in [(76, 0), (50, 0)] {
+        let s = sheet(&with(closed_leg(0), &[change]));
+        assert_eq!([17, 26, 28].map(|k| line(&s, 3, k)), [0; 3]);
+        assert_eq!(s[PAIRS + 4..PAIRS + 8], [13_973, 21_973, 13_973, 0]);
+    }
+    // lefts alone: line 17 is for those who cross, 26 and 28 go by the lefts
+    let s = sheet(&with(closed_leg(0), &[(45, 1), (46, 50)]));
+    assert_eq!(line(&s, 3, 17), 24_000);
+    assert_eq!([27, 28].map(|k| line(&s, 3, k)), [3_325, 24_000]);
+}

@@ -1,7 +1,7 @@
--- An empty approach has 0 in all four lines; any other has its options, the lesser of them, and that weighted.
+-- An empty approach has 0 in lines 23–25, and in 26 the time of those who cross; any other has its options, the lesser of them, and that weighted.
 use mathlib.Core.Bool.{true, false}
 use mathlib.Core.Path.{_≡_, refl, sym, _∙_}
-use Rattle.procedure.specs.Lines.{empty, line23, line24, line25, line26, lesser, weighted}
+use Rattle.procedure.specs.Lines.{empty, line23, line24, line25, line26, lesser, weighted, nobodyDriving}
 use Rattle.line_bounds.proofs.Times.{F-most}
 use Rattle.line_bounds.proofs.Permitted.{line25-timely}
 use borrow.Author.Needs.{needs}
@@ -34,11 +34,17 @@ lesser-is d = rw (← a-is (d .before .before), ← b-is (d .before)) (d .lesser
 is-empty-requires : tie.Need-is-empty-requires
 is-empty-requires c κs = rw (c .pre .1) refl
 
+weigh-nobody-requires : tie.Need-weigh-nobody-requires
+weigh-nobody-requires c κs =
+    let s = c .before .before in
+    (s .pre .0, rw (s .pre .1) (F-most _ _))
+
 returns : tie.Need-returns
-unfolding line23 line24 line25 line26 lesser
+unfolding line23 line24 line25 line26 lesser weighted nobodyDriving
 returns c =
-    let none : empty (c .before .before .args .s) ≡ true = sym (c .before .is-empty .ensures) ∙ c .if1 .taken in
-    rw none
+    let d = c .before .before in
+    let none : empty (d .before .args .s) ≡ true = sym (d .is-empty .ensures) ∙ c .before .if1 .taken in
+    rw (c .weigh-nobody .ensures, none, d .before .pre .1)
 
 weigh-if-allowed-requires : tie.Need-weigh-if-allowed-requires
 weigh-if-allowed-requires c κs =
@@ -62,5 +68,5 @@ returns-2 c =
 pub permitted-of-spec : {M : Type 1} → statement M
 permitted-of-spec =
     tie.close
-    (tie.spec is-empty-requires returns (λ c. search needs) (λ c. search needs) (λ c. search needs)
+    (tie.spec is-empty-requires weigh-nobody-requires returns (λ c. search needs) (λ c. search needs) (λ c. search needs)
     weigh-if-allowed-requires returns-2)

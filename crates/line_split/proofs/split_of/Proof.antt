@@ -1,9 +1,9 @@
--- An approach without volume has 0; any other weighs line 27, which a law keeps small.
+-- An approach without volume has the time of those who cross; any other weighs line 27, which a law keeps small.
 use native.Mathlib.Omega.{arith}
 use mathlib.Core.Path.{_≡_}
 use borrow.Author.Tests.{eq-eqb}
 use Rattle.kinds.specs.declared.Group.the-variants.{Left, Through}
-use Rattle.procedure.specs.Lines.{empty, line28, weighted, volume}
+use Rattle.procedure.specs.Lines.{empty, line28, weighted, nobodyDriving, volume}
 use Rattle.line_bounds.proofs.Flows.{volumes}
 use Rattle.line_bounds.proofs.Times.{F-most, line27-most}
 use Rattle.line_split.proofs.Laws.{not-both-none}
@@ -17,15 +17,20 @@ add-if1 c =
     let counted = volumes (s .args .s) (s .pre .0) in
     rw (s .pre .1) (omega arith)
 
+weigh-nobody-requires : tie.Need-weigh-nobody-requires
+weigh-nobody-requires c κs =
+    let s = c .before .before .before in
+    (s .pre .0, rw (s .pre .1) (F-most _ _))
+
 returns : tie.Need-returns
-unfolding line28 empty
+unfolding line28 empty weighted nobodyDriving
 returns c =
-    let d = c .before .before in
+    let d = c .before .before .before in
     let s = d .before in
-    let none = rw (s .pre .1) at (c .if1 .taken) in
+    let none = rw (s .pre .1) at (c .before .if1 .taken) in
     let l : volume (s .args .s) Left ≡ 0 = omega (arith, none) in
     let t : volume (s .args .s) Through ≡ 0 = omega (arith, none) in
-    rw (d .largest-of .ensures, eq-eqb _ _ l, eq-eqb _ _ t)
+    rw (c .weigh-nobody .ensures, d .largest-of .ensures, eq-eqb _ _ l, eq-eqb _ _ t, s .pre .1)
 
 weigh-requires : tie.Need-weigh-requires
 weigh-requires c κs =
@@ -41,4 +46,4 @@ returns-2 c =
     rw (c .weigh .ensures, d .largest-of .ensures, not-both-none _ _ (rw (s .pre .1) at (c .before .if1 .left)), s .pre .1)
 
 pub split-of-spec : {M : Type 1} → statement M
-split-of-spec = tie.close (tie.spec (λ c. search needs) add-if1 returns weigh-requires returns-2)
+split-of-spec = tie.close (tie.spec (λ c. search needs) add-if1 weigh-nobody-requires returns weigh-requires returns-2)

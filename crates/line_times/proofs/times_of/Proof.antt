@@ -1,6 +1,6 @@
 -- Each reference time is the part's time of its group's volume, flow and interference; each adjusted time follows from it.
 use Rattle.kinds.specs.declared.Group.the-variants.{Left, Through, Right}
-use Rattle.procedure.specs.Lines.{interference, reference, weighted, adjusted}
+use Rattle.procedure.specs.Lines.{interference, reference, weighted, nobodyDriving, adjusted}
 use Rattle.line_bounds.proofs.Times.{group-passes, interference-most, F-most, reference-most}
 use native.Mathlib.Omega.{arith}
 use mathlib.Core.Path.{_≡_}
@@ -58,7 +58,7 @@ adjusted-time-requires-2 c κs =
     (fair .lost, fair .green, rw (right (c .before .before)) (reference-most _ _ (s .pre .0) (s .pre .4) Right))
 
 returns : tie.Need-returns
-unfolding adjusted weighted
+unfolding adjusted weighted nobodyDriving
 returns c =
     let r = c .before .before .before in
     let s = r .before .before .before in
