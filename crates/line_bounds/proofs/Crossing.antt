@@ -41,7 +41,7 @@ module _ (s : Approach) (CL : ℕ) where
       record {
         cars = cars;
         lefts = omega (arith, eqb-true (volume s Left) 0 (none .0), p .left, p .through);
-        straight = omega arith;
+        straight = omega (arith, cars);
       }
 
   split : empty s ≡ true → (line27 s CL ≡ 0) × (line28 s CL ≡ nobodyDriving s CL)

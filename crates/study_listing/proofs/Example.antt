@@ -9,7 +9,8 @@ use Rattle.line_factors.specs.Factors.{laneFactor}
 use Rattle.entries.specs.Layout.{movementEntry, approachEntry}
 use Rattle.procedure.specs.Approach.{readMovement, readApproach}
 use Rattle.procedure.specs.Lines.{a, b, volume, vST, turningT, fT, flowOf, flow, turningST, sST, sSL, G, interference, frequency, F, time, reference}
-use Rattle.procedure.specs.Lines.{adjustedOf, weightedOf, weighted, adjusted, heaviest, vLL, q, single, leftShare, equivalent, E, flowA, sA}
+use Rattle.procedure.specs.Lines.{adjustedOf, weightedOf, weighted, crossed, nobodyDriving, adjusted, heaviest, vLL, q, single, leftShare}
+use Rattle.procedure.specs.Lines.{equivalent, E, flowA, sA}
 use Rattle.procedure.specs.Lines.{optionAOf, leftA, optionA, allowedA, allowedB, empty, line23, sB, throughB, optionB, line24, lesser, line25, line26}
 use Rattle.procedure.specs.Lines.{line27, line28, firstLines, laterLines, lines}
 use Rattle.procedure.specs.Pairs.{protected, permitted, split, picked, pair, throughTime, leftTime, rightTotal, icuOf, endsPassed}
@@ -28,8 +29,8 @@ use Rattle.study_listing.specs.Listing.{siteOf, siteLines, listing}
 
 pub example : listing (fileOf icus (K1 ++ set K1 cycleEntry 29)) ≡ ascii "1 666 C PP\n2 R3 80\n"
 unfolding ascii kindAt up term turns faded decayNumber laneFactor movementEntry approachEntry readMovement readApproach a b volume
-    vST turningT fT flowOf flow turningST sST sSL G interference frequency F time reference adjustedOf weightedOf weighted adjusted heaviest
-    vLL q single leftShare equivalent E flowA sA optionAOf leftA optionA allowedA allowedB empty line23 sB throughB optionB line24 lesser
+    vST turningT fT flowOf flow turningST sST sSL G interference frequency F time reference adjustedOf weightedOf weighted crossed
+    nobodyDriving adjusted heaviest vLL q single leftShare equivalent E flowA sA optionAOf leftA optionA allowedA allowedB empty line23 sB throughB optionB line24 lesser
     line25 line26 line27 line28 firstLines laterLines lines protected permitted split picked pair throughTime leftTime rightTotal icuOf
     endsPassed linesAt pairAt rightAt lastOf lastAt sheet inTurn sizeAnswer outside badlyShared otherLanes unserved judged bytesOf table
     packed startsWith judgement fileOf digits decimal numberThen ratedLine refusedLine siteOf siteLines listing

@@ -1,5 +1,6 @@
 use mathlib.Core.Path.{sym, _∙_}
 use native.Mathlib.Omega.{arith}
+use borrow.Author.Needs.{needs}
 use Rattle.line_formulas.proofs.weigh_nobody.Statement.{statement}
 use Rattle.line_formulas.proofs.weigh_nobody.Tie as tie
 
@@ -13,4 +14,4 @@ returns-2 : tie.Need-returns-2
 returns-2 c = rw (sym (c .before .is-crossed .ensures) ∙ c .if1 .left)
 
 pub weigh-nobody-spec : {M : Type 1} → statement M
-weigh-nobody-spec = tie.close (tie.spec weigh-requires returns returns-2)
+weigh-nobody-spec = tie.close (tie.spec (λ c. search needs) weigh-requires returns returns-2)
