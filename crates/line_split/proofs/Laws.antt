@@ -1,4 +1,4 @@
--- An approach is empty only where its volumes add up to nothing; without folded lefts line 27 is a line 13 or 14.
+-- An approach is empty only where its volumes add up to nothing; without folded lefts line 27 is a line 13 or 14; two lines make a split.
 use mathlib.Core.Path.{_≡_, refl}
 use mathlib.Core.Bool.{Bool, true, false, _&&_}
 use Prim.Native.Nat.{ℕ, _+_, max}
@@ -9,7 +9,10 @@ use borrow.Author.Tests.{eqb-true, ne-eqb}
 use Rattle.kinds.specs.declared.Group.the-variants.{Left, Through}
 use Rattle.procedure.specs.declared.Approach.{Approach}
 use Rattle.procedure.specs.Approach.{v, isShared}
-use Rattle.procedure.specs.Lines.{b, volume, vST, sST, sSL, interference, part, time, reference, line27}
+use Rattle.procedure.specs.Lines.{b, volume, vST, sST, sSL, interference, part, time, reference, line27, line28}
+use Rattle.units.specs.declared.Ms.{Ms}
+use Rattle.line_stages.specs.declared.Split.{Split}
+use Rattle.line_stages.specs.Stages.{splitOf}
 use Rattle.line_bounds.proofs.Flows.{straight-alike}
 
 pub not-both-none : (x y : ℕ) → (x + y ≡ 0 → ⊥) → (eqb x 0 && eqb y 0) ≡ false
@@ -38,3 +41,9 @@ module _ (s : Approach) (CL : ℕ) (none : b s ≡ 0) where
   pub line27-alike : line27 s CL ≡ max (reference s Through CL) (reference s Left CL)
   unfolding line27
   line27-alike = rw (straight-part, lefts-part) (omega arith)
+
+-- what is made of line 27 and line 28 is the stage's value
+pub split-made :
+    (s : Approach) (CL : ℕ) (largest weighted : Ms) → largest .0 ≡ line27 s CL → weighted .0 ≡ line28 s CL
+    → record { largest = largest; weighted = weighted } ≡ splitOf s CL
+split-made s CL largest weighted one other = rw (← one, ← other)
