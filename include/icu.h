@@ -25,10 +25,11 @@
 extern "C" {
 #endif
 
-/* The version of this interface: a change of the first number changes what programs may rely on. */
+/* The version: a change of the first number changes what programs may rely on, a change of the
+ * second what the same entries may give. 1.1: those who cross have their time where nobody drives. */
 #define ICU2003_VERSION_MAJOR 1
-#define ICU2003_VERSION_MINOR 0
-#define ICU2003_VERSION "1.0"
+#define ICU2003_VERSION_MINOR 1
+#define ICU2003_VERSION "1.1"
 
 /* ------------------------------------------------------------------ answers */
 

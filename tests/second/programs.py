@@ -243,7 +243,7 @@ def usage(b):
         b.same("words", several_changes(junctions.K1, [word.encode() for word in words])[0], (b"", said))
     out, said = b.run("icuamend", "--help")
     b.same("help", (out, said), (b.run("icuamend")[1], b""))
-    b.same("version", b.run("icuamend", "--version"), (b"icu2003 1.0\n", b""))
+    b.same("version", b.run("icuamend", "--version"), (b"icu2003 1.1\n", b""))
     for word in ("0", "2", "x", "", "4294967296"):
         b.same("no site", b.run("icuamend", study, word, "EBQ", "volume", "1"), (b"", word.encode() + b": the study has 1 site\n"))
     b.same("no study", b.run("icuamend", "nothing", "1", "EBQ", "volume", "1"), (b"", b"nothing: cannot be read\n"))
@@ -259,7 +259,7 @@ def usage(b):
         b.same("no study file", b.run("icusheet", text, word), (b"", text.encode() + b": R6: this is no study file\n"))
     for program, more in (("icusheet", ()), ("icustudy", ())):
         b.same("help", b.run(program, "--help"), (b.run(program)[1], b""))
-        b.same("version", b.run(program, "--version"), (b"icu2003 1.0\n", b""))
+        b.same("version", b.run(program, "--version"), (b"icu2003 1.1\n", b""))
     for missing in ("nothing", ".", ""):
         b.same("missing", b.run("icusheet", missing), (b"", missing.encode() + b": cannot be read\n"))
     b.same("unwritable", b.run("icustudy", "make", ".", os.path.join(SAMPLES, "k1.txt")), (b"", b".: cannot be written\n"))
