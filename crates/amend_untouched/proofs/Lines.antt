@@ -11,8 +11,8 @@ use Rattle.layout.specs.Sheet.{lineCount}
 use Rattle.lists.proofs.Tests.{values, each-below}
 use Rattle.procedure.specs.declared.Approach.{Approach}
 use Rattle.procedure.specs.Lines.{lines, firstLines, laterLines, a, b, volume, vST, fT, flow, sST, sSL, interference, F, reference, weighted}
-use Rattle.procedure.specs.Lines.{crossed, nobodyDriving, adjusted, vLL, q, single, leftShare, E, sA, leftA, optionA, allowedA, allowedB, empty, line23, sB, optionB}
-use Rattle.procedure.specs.Lines.{line24, line25, line26, line27, line28}
+use Rattle.procedure.specs.Lines.{crossed, nobodyDriving, adjusted, vLL, q, single, leftShare, E, sA, leftA, optionA, allowedA, allowedB}
+use Rattle.procedure.specs.Lines.{empty, line23, sB, optionB, line24, line25, line26, line27, line28}
 use Rattle.sheet_cells.proofs.Cells.{lines-long}
 use Rattle.amend_reach.specs.Reach.{names, faces, reachOf, mergedFrom}
 use Rattle.amend_reach.proofs.Merging.{fresh-agrees}

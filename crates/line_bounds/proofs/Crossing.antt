@@ -1,7 +1,7 @@
 -- Where nobody drives: the reference times are 0, and lines 17, 26 and 28 have the time of those who cross.
-use mathlib.Core.Path.{_≡_, refl}
-use mathlib.Core.Bool.{Bool, true, false, cond, _&&_}
-use Prim.Native.Nat.{ℕ, _+_, max}
+use mathlib.Core.Path.{_≡_}
+use mathlib.Core.Bool.{true, false}
+use Prim.Native.Nat.{ℕ}
 use native.Mathlib.Omega.{arith}
 use lib.Dec.{eqb}
 use borrow.Author.Tests.{eqb-true, eq-eqb}
@@ -9,7 +9,7 @@ use Rattle.lists.proofs.Tests.{both-true}
 use Rattle.kinds.specs.declared.Group.the-variants.{Left, Through}
 use Rattle.procedure.specs.declared.Approach.{Approach}
 use Rattle.procedure.specs.Approach.{v}
-use Rattle.procedure.specs.Lines.{b, volume, vC, vST, reference, weighted, crossed, nobodyDriving, adjusted, lesser, empty}
+use Rattle.procedure.specs.Lines.{volume, vC, vST, reference, weighted, crossed, nobodyDriving, adjusted, lesser, empty}
 use Rattle.procedure.specs.Lines.{line23, line24, line25, line26, line27, line28}
 use Rattle.line_bounds.proofs.Flows.{parted}
 

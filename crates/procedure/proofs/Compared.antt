@@ -17,7 +17,7 @@ use Rattle.procedure.specs.Junctions.{workedOut, given}
 pub compared : workedOut ≡ given
 unfolding up term turns faded decayNumber laneFactor movementEntry approachEntry readMovement readApproach a b volume vST turningT fT flowOf
     flow turningST sST sSL G interference frequency F time reference adjustedOf weightedOf weighted crossed nobodyDriving adjusted
-    heaviest vLL q single leftShare equivalent E flowA sA optionAOf leftA optionA allowedA allowedB empty line23 sB throughB optionB line24 lesser line25 line26 line27
-    line28 firstLines laterLines lines protected permitted split picked pair throughTime leftTime rightTotal icuOf endsPassed linesAt pairAt
-    rightAt lastOf lastAt sheet
+    heaviest vLL q single leftShare equivalent E flowA sA optionAOf leftA optionA allowedA allowedB empty line23 sB throughB optionB
+    line24 lesser line25 line26 line27 line28 firstLines laterLines lines protected permitted split picked pair throughTime leftTime
+    rightTotal icuOf endsPassed linesAt pairAt rightAt lastOf lastAt sheet
 compared = refl

@@ -30,8 +30,9 @@ use Rattle.study_listing.specs.Listing.{siteOf, siteLines, listing}
 pub example : listing (fileOf icus (K1 ++ set K1 cycleEntry 29)) ≡ ascii "1 666 C PP\n2 R3 80\n"
 unfolding ascii kindAt up term turns faded decayNumber laneFactor movementEntry approachEntry readMovement readApproach a b volume
     vST turningT fT flowOf flow turningST sST sSL G interference frequency F time reference adjustedOf weightedOf weighted crossed
-    nobodyDriving adjusted heaviest vLL q single leftShare equivalent E flowA sA optionAOf leftA optionA allowedA allowedB empty line23 sB throughB optionB line24 lesser
-    line25 line26 line27 line28 firstLines laterLines lines protected permitted split picked pair throughTime leftTime rightTotal icuOf
-    endsPassed linesAt pairAt rightAt lastOf lastAt sheet inTurn sizeAnswer outside badlyShared otherLanes unserved judged bytesOf table
-    packed startsWith judgement fileOf digits decimal numberThen ratedLine refusedLine siteOf siteLines listing
+    nobodyDriving adjusted heaviest vLL q single leftShare equivalent E flowA sA optionAOf leftA optionA allowedA allowedB empty line23
+    sB throughB optionB line24 lesser line25 line26 line27 line28 firstLines laterLines lines protected permitted split picked pair
+    throughTime leftTime rightTotal icuOf endsPassed linesAt pairAt rightAt lastOf lastAt sheet inTurn sizeAnswer outside badlyShared
+    otherLanes unserved judged bytesOf table packed startsWith judgement fileOf digits decimal numberThen ratedLine refusedLine siteOf
+    siteLines listing
 example = refl
