@@ -122,7 +122,7 @@ def check_book_examples():
 
 
 def check_named():
-    check("at most what the program reads", len(junctions.all_junctions()) <= 65536 // 324, True)
+    check("at most what the program reads", len(junctions.all_junctions()) <= 65536 // icu2003.BLOCK, True)
     for name, at, wanted in (
             ("lefts only, no through lane", 196, 1), ("permitted ties with split", 196, 1),
             ("permitted picked, by option B and by option A", 196, 1),
