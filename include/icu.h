@@ -1,6 +1,6 @@
 /*
  * Rates the capacity of a road junction by Intersection Capacity Utilization 2003:
- * fills a worksheet, amends it, and reads, writes and lists study files.
+ * fills a worksheet, amends it, rates a diamond interchange, and reads, writes and lists study files.
  *
  * All numbers are whole. Volumes and flows are vehicles per hour, times milliseconds, the cycle
  * seconds, factors and shares ten-thousandths, the ICU tenths of a percent.
@@ -26,10 +26,11 @@ extern "C" {
 #endif
 
 /* The version: a change of the first number changes what programs may rely on, a change of the
- * second what the same entries may give. 1.1: those who cross have their time where nobody drives. */
+ * second what the same entries may give or what calls there are. 1.1: those who cross have their time
+ * where nobody drives. 1.2: icu_diamond; all other calls give what they gave. */
 #define ICU2003_VERSION_MAJOR 1
-#define ICU2003_VERSION_MINOR 1
-#define ICU2003_VERSION "1.1"
+#define ICU2003_VERSION_MINOR 2
+#define ICU2003_VERSION "1.2"
 
 /* ------------------------------------------------------------------ answers */
 
@@ -47,8 +48,11 @@ enum {
     ICU_SHARED = 4, /* a shared lane with left lanes or without through lanes;
                        place: the lowest such approach, 0 to 3 */
     ICU_NOLANE = 5, /* volume without a lane to use; place: the lowest such movement, 0 to 11 */
-    ICU_FILE = 6    /* a study file badly laid out, a site it lacks, or too little room;
+    ICU_FILE = 6,   /* a study file badly laid out, a site it lacks, or too little room;
                        place: see the calls */
+    ICU_STORE = 7,  /* a storage of a diamond interchange outside its range; place: the lowest
+                       such, 162 to 165 */
+    ICU_TRAVEL = 8  /* its travel time outside its range; place 166 */
 };
 
 /* ------------------------------------------------------------------ the 81 entries */
@@ -152,6 +156,71 @@ IcuAnswer icu_fill(const uint32_t *entries, size_t entries_len, uint32_t *sheet,
  * The sheet stays as it was on a refusal.
  */
 IcuAnswer icu_amend(uint32_t *sheet, size_t len, uint32_t entry, uint32_t value);
+
+/* ------------------------------------------------------------------ diamond interchanges */
+
+/*
+ * A record of 167 numbers: the entries of the west junction of an east-west arterial, those of the
+ * east junction, four storages and the travel time between the two. Both junctions have the same cycle.
+ */
+#define ICU_RECORD 167
+#define ICU_WEST(entry) (entry)        /* 0 to 80 */
+#define ICU_EAST(entry) (81 + (entry)) /* 81 to 161 */
+
+/* Vehicles that find room between the junctions, 1 to 999. */
+#define ICU_STORAGE_WB_LEFT 162   /* the west junction's WB left */
+#define ICU_STORAGE_EB_LEFT 163   /* the east junction's EB left */
+#define ICU_STORAGE_EASTBOUND 164 /* the road eastbound, for the west ramp's SB left */
+#define ICU_STORAGE_WESTBOUND 165 /* the road westbound, for the east ramp's NB left */
+
+#define ICU_TRAVEL_TIME 166 /* 0 to 60,000 ms */
+
+/* What is worked out of it: 29 cells. */
+#define ICU_DIAMOND_CELLS 29
+
+/* The interchange times, ms: lines 16 to 18 of the junctions' own sheets, 0 for a free right. */
+enum {
+    ICU_WEST_EBT = 0,
+    ICU_WEST_EBR = 1,
+    ICU_WEST_WBL = 2,
+    ICU_WEST_WBT = 3,
+    ICU_WEST_SBL = 4,
+    ICU_WEST_SBT = 5,
+    ICU_WEST_SBR = 6,
+    ICU_EAST_WBT = 7,
+    ICU_EAST_WBR = 8,
+    ICU_EAST_EBL = 9,
+    ICU_EAST_EBT = 10,
+    ICU_EAST_NBL = 11,
+    ICU_EAST_NBT = 12,
+    ICU_EAST_NBR = 13
+};
+
+/* Of each side, ms. */
+enum { ICU_WEST_SIDE = 0, ICU_EAST_SIDE = 1 };
+#define ICU_ISOLATED(side) (14 + (side))           /* isolated time 1 */
+#define ICU_ISOLATED_ALTERNATE(side) (16 + (side)) /* the alternate check */
+#define ICU_ISOLATED_COMBINED(side) (18 + (side))  /* the larger of the two */
+#define ICU_OVERLAP(side) (20 + (side))
+
+/* The timing plans, ms, or ICU_BLANK where the storages do not allow one. */
+enum { ICU_LEADING_ALTERNATE = 0, ICU_LAGGING = 1, ICU_LEAD_LAG = 2 };
+#define ICU_PLAN(plan) (22 + (plan))
+
+#define ICU_PLAN_PICKED 25    /* 0, 1 or 2: the plan that takes least, the earlier on a tie */
+#define ICU_BEST 26           /* its time, ms */
+#define ICU_DIAMOND_ICU 27    /* tenths of a percent */
+#define ICU_DIAMOND_LETTER 28 /* 0 for A to 7 for H */
+
+/*
+ * Judges the record and works out the 29 cells.
+ * Refuses ICU_SIZE (place 0) where record_len is not 167 or cells_len not 29; then ICU_RANGE,
+ * ICU_SHARED and ICU_NOLANE, each over both junctions, the east's places counted on from the west's:
+ * entries from 81, approaches from 4, movements from 12; an east cycle that is not the west's is
+ * ICU_RANGE at 161; then ICU_STORE and ICU_TRAVEL.
+ * The cells stay as they were on a refusal; the record always does.
+ */
+IcuAnswer icu_diamond(const uint32_t *record, size_t record_len, uint32_t *cells, size_t cells_len);
 
 /* ------------------------------------------------------------------ study files */
 

@@ -1,5 +1,6 @@
 //! The junctions that are timed: a mix as a town has it, every group in use.
 
+use compare::diamond::{self, Record, EAST, STORAGES};
 use compare::generate::{Entries, Rng};
 use compare::rules::{self, ACCEPTED, CELLS, CYCLE, ENTRIES};
 
@@ -66,4 +67,20 @@ pub fn sheets(junctions: &[Entries]) -> Vec<Sheet> {
         rules::fill(e, sheet);
     }
     sheets
+}
+
+/// Interchanges of the junctions, two by two, with the cycle of the first.
+pub fn records(rng: &mut Rng, junctions: &[Entries]) -> Vec<Record> {
+    let record = |two: &[Entries]| {
+        let mut record = [0; diamond::RECORD];
+        record[..STORAGES].copy_from_slice(&two.concat());
+        record[EAST + CYCLE] = record[CYCLE];
+        let own: [u32; 4] = std::array::from_fn(|_| rng.within(4, 40));
+        record[STORAGES..STORAGES + 4].copy_from_slice(&own);
+        record[diamond::TRAVEL_TIME] = rng.within(3_000, 15_000);
+        record
+    };
+    let records: Vec<Record> = junctions.chunks_exact(2).map(record).collect();
+    assert!(records.iter().all(|r| diamond::judge(r) == ACCEPTED));
+    records
 }

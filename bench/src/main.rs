@@ -6,6 +6,7 @@ mod junctions;
 mod steps;
 mod timing;
 
+use compare::diamond::{self, Record};
 use compare::generate::{laid_out, Entries, Rng};
 use compare::rules::{self, Answer, CELLS, SITES};
 use junctions::Sheet;
@@ -38,6 +39,14 @@ const LIST: Option<List> = {
     let call: Option<List> = Some(compare::library::study_list);
     #[cfg(not(feature = "study"))]
     let call: Option<List> = None;
+    call
+};
+
+const DIAMOND: Option<Fill> = {
+    #[cfg(feature = "diamond")]
+    let call: Option<Fill> = Some(compare::library::diamond);
+    #[cfg(not(feature = "diamond"))]
+    let call: Option<Fill> = None;
     call
 };
 
@@ -100,6 +109,47 @@ fn time_list(name: &str, mix: &[Entries], rounds: usize) {
     );
 }
 
+fn crossing(call: Fill, records: &[Record]) -> Work<'_> {
+    let mut cells = [0; diamond::CELLS];
+    Box::new(move || {
+        let rated = |r: &&Record| call(black_box(*r), black_box(&mut cells)) == rules::ACCEPTED;
+        records.iter().filter(rated).count()
+    })
+}
+
+fn rated(call: Fill, record: &Record) -> [u32; diamond::CELLS] {
+    let mut cells = [0; diamond::CELLS];
+    call(record, &mut cells);
+    cells
+}
+
+fn time_diamond(name: &str, records: &[Record], rounds: usize) {
+    // What is timed must also be right.
+    let same = |r: &Record| DIAMOND.is_none_or(|call| rated(call, r) == rated(diamond::diamond, r));
+    assert!(records.iter().all(same), "the cells differ in {name}");
+    let library = DIAMOND.map(|call| crossing(call, records));
+    let rust = crossing(diamond::diamond, records);
+    row(name, timing::both(library, rust, records.len(), rounds));
+}
+
+/// The library's records beside its own fills of the same junctions.
+fn time_record_in_fills(records: &[Record], rounds: usize) {
+    let (Some(rate), Some(fill)) = (DIAMOND, FILL) else {
+        return;
+    };
+    let halves = |r: &Record| [*diamond::junction(r, 0), *diamond::junction(r, 1)];
+    let junctions: Vec<Entries> = records.iter().flat_map(halves).collect();
+    let times = timing::both(
+        Some(crossing(rate, records)),
+        filling(fill, &junctions),
+        records.len(),
+        rounds,
+    );
+    // A round rates each record once and fills its two junctions.
+    let fills = times.ratio.map_or(0.0, |ratio| 2.0 * ratio);
+    println!("a record takes {fills:.2} of the library's fills, at most 2.2 are asked for");
+}
+
 fn main() {
     let rounds = std::env::args()
         .nth(1)
@@ -127,4 +177,13 @@ fn main() {
     let steps = steps::of_all_kinds(&mut rng, &mix);
     time_amend("amend, mix of all kinds", &mix, &steps, rounds);
     time_list("list of 180 sites", &mix, rounds);
+    for (name, mix) in [
+        ("diamond, no pedestrians", &quiet),
+        ("diamond, pedestrians", &walked),
+        ("diamond, mix", &mix),
+    ] {
+        let records = junctions::records(&mut rng, mix);
+        time_diamond(name, &records, rounds);
+        time_record_in_fills(&records, rounds);
+    }
 }

@@ -43,6 +43,9 @@ PUBLIC = {
     "program_make": ["add", "make"],
     "program_list": ["takes", "is_named", "run"],
     "program_target": ["judge"],
+    "program_diamond": ["takes", "run"],
+    "diamond_beside": ["fill"],
+    "diamond_page": ["print"],
 }
 
 NAME = r"[^\s(){}\[\],;.⌜⌝⟦⟧λ∷≡×→≤<:=+*/%-][^\s(){}\[\],;.⌜⌝⟦⟧λ∷≡×→:=+*/%]*"

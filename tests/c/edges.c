@@ -1,5 +1,5 @@
 /*
- * The edges of the interface: null with length 0 for every list, and the names of the lines.
+ * The edges of the interface: null with length 0 for every list, and the names of the lines and of an interchange's numbers.
  * Prints nothing and ends with 0 where all is as the header says.
  */
 #include <stdio.h>
@@ -41,6 +41,82 @@ static void expect_cell(const char *what, uint32_t got, uint32_t due)
     wrong = 1;
 }
 
+/* Two such junctions with one movement apart, storages and a travel time. */
+static void enter_record(uint32_t record[ICU_RECORD])
+{
+    enter(record + ICU_WEST(0));
+    enter(record + ICU_EAST(0));
+    record[ICU_EAST(ICU_VOLUME(ICU_MOVEMENT(ICU_EB, ICU_LEFT)))] = 200;
+    for (int storage = ICU_STORAGE_WB_LEFT; storage <= ICU_STORAGE_WESTBOUND; storage++)
+        record[storage] = 20;
+    record[ICU_TRAVEL_TIME] = 7100;
+}
+
+static void diamond_sizes(const uint32_t record[ICU_RECORD + 1], uint32_t cells[ICU_DIAMOND_CELLS + 1])
+{
+    expect("diamond, nothing lent", icu_diamond(NULL, 0, NULL, 0), ICU_SIZE, 0);
+    expect("diamond, no cells", icu_diamond(record, ICU_RECORD, NULL, 0), ICU_SIZE, 0);
+    expect("diamond, no record", icu_diamond(NULL, 0, cells, ICU_DIAMOND_CELLS), ICU_SIZE, 0);
+    for (int by = -1; by <= 1; by += 2) {
+        expect("diamond, record's length", icu_diamond(record, ICU_RECORD + by, cells, ICU_DIAMOND_CELLS), ICU_SIZE, 0);
+        expect("diamond, cells' length", icu_diamond(record, ICU_RECORD, cells, ICU_DIAMOND_CELLS + by), ICU_SIZE, 0);
+    }
+}
+
+/* A record with another number at one place: refused, and no cell altered. */
+static void refused_at(uint32_t record[ICU_RECORD], int place, uint32_t number, IcuAnswer due)
+{
+    uint32_t cells[ICU_DIAMOND_CELLS], kept = record[place];
+    memset(cells, 7, sizeof cells);
+    record[place] = number;
+    expect("diamond, refused", icu_diamond(record, ICU_RECORD, cells, ICU_DIAMOND_CELLS), due.number, due.place);
+    record[place] = kept;
+    for (int i = 0; i < ICU_DIAMOND_CELLS; i++)
+        expect_cell("cell after a refusal", cells[i], 0x07070707);
+}
+
+static void diamond_refusals(uint32_t record[ICU_RECORD])
+{
+    refused_at(record, ICU_WEST(ICU_CYCLE), 29, (IcuAnswer){ICU_RANGE, 80});
+    refused_at(record, ICU_EAST(ICU_CYCLE), 121, (IcuAnswer){ICU_RANGE, 161});
+    refused_at(record, ICU_EAST(ICU_SHARED_LANE(ICU_NB)), 1, (IcuAnswer){ICU_SHARED, 6});
+    refused_at(record, ICU_EAST(ICU_LANES(ICU_MOVEMENT(ICU_SB, ICU_THROUGH))), 0, (IcuAnswer){ICU_NOLANE, 22});
+    refused_at(record, ICU_STORAGE_EB_LEFT, 1000, (IcuAnswer){ICU_STORE, 163});
+    refused_at(record, ICU_STORAGE_WESTBOUND, 0, (IcuAnswer){ICU_STORE, 165});
+    refused_at(record, ICU_TRAVEL_TIME, 60001, (IcuAnswer){ICU_TRAVEL, 166});
+}
+
+static void diamond_cells(uint32_t record[ICU_RECORD], uint32_t cells[ICU_DIAMOND_CELLS])
+{
+    expect("diamond", icu_diamond(record, ICU_RECORD, cells, ICU_DIAMOND_CELLS), ICU_ACCEPTED, 0);
+    expect_cell("west WBL", cells[ICU_WEST_WBL], 10649);
+    expect_cell("east EBL", cells[ICU_EAST_EBL], 17297);
+    expect_cell("east NBT", cells[ICU_EAST_NBT], 29264);
+    expect_cell("isolated, west", cells[ICU_ISOLATED(ICU_WEST_SIDE)], 69177);
+    expect_cell("alternate, east", cells[ICU_ISOLATED_ALTERNATE(ICU_EAST_SIDE)], 58528);
+    expect_cell("combined, east", cells[ICU_ISOLATED_COMBINED(ICU_EAST_SIDE)], 75825);
+    expect_cell("overlap", cells[ICU_OVERLAP(ICU_WEST_SIDE)], 7100);
+    expect_cell("leading alternate", cells[ICU_PLAN(ICU_LEADING_ALTERNATE)], 102856);
+    expect_cell("picked", cells[ICU_PLAN_PICKED], ICU_LAGGING);
+    expect_cell("best", cells[ICU_BEST], cells[ICU_PLAN(ICU_LAGGING)]);
+    expect_cell("ICU", cells[ICU_DIAMOND_ICU], 632);
+    expect_cell("letter", cells[ICU_DIAMOND_LETTER], 1);
+    record[ICU_STORAGE_WB_LEFT] = 5;
+    expect("diamond, a storage of 5", icu_diamond(record, ICU_RECORD, cells, ICU_DIAMOND_CELLS), ICU_ACCEPTED, 0);
+    expect_cell("lagging, not allowed", cells[ICU_PLAN(ICU_LAGGING)], ICU_BLANK);
+    expect_cell("picked without it", cells[ICU_PLAN_PICKED], ICU_LEAD_LAG);
+}
+
+static void diamond(void)
+{
+    uint32_t record[ICU_RECORD + 1] = {0}, cells[ICU_DIAMOND_CELLS + 1];
+
+    enter_record(record);
+    diamond_sizes(record, cells);
+    diamond_refusals(record);
+    diamond_cells(record, cells);
+}
+
 int main(void)
 {
     uint32_t entries[ICU_ENTRIES], sheet[ICU_CELLS], length = 7;
@@ -65,5 +141,6 @@ int main(void)
     expect_cell("left reference", sheet[ICU_LINE(ICU_SB, ICU_LEFT_REFERENCE)],
                 sheet[ICU_LINE(ICU_SB, ICU_LEFT_ADJUSTED)] - 4000);
     expect_cell("option B", sheet[ICU_LINE(ICU_EB, ICU_OPTION_B)], ICU_BLANK);
+    diamond();
     return wrong;
 }

@@ -583,6 +583,134 @@ def amend(sheet, entry, value):
     return (0, 0)
 
 
+# ---------------------------------------------------------------- diamond interchanges
+
+EB, WB, NB, SB = range(4)
+EAST = 81  # where the east junction's entries begin in a record
+STORAGES = 162
+TRAVEL = 166
+RECORD = 167
+DIAMOND_CELLS = 29
+STORAGE_LIMITS = (1, 999)
+TRAVEL_LIMITS = (0, 60000)
+# Of the west junction and the east: what enters from outside, what comes from the other junction, the ramp.
+SIDES = ((EB, WB, SB), (WB, EB, NB))
+# The left that waits in each storage: side and approach, in the record's order.
+STORED = ((0, WB), (1, EB), (0, SB), (1, NB))
+OFF_RAMP = (2, 3)  # the storages of the lefts that come off the ramps
+
+
+def halves(record):
+    """The west junction's entries and the east's."""
+    return record[:EAST], record[EAST:STORAGES]
+
+
+def both_places(record, search, step):
+    """What a search finds in the west junction, else what it finds in the east one, so many places on."""
+    west, east = (search(entries) for entries in halves(record))
+    if west is not None:
+        return west
+    return None if east is None else step + east
+
+
+def diamond_range_place(record):
+    """Lowest entry of both junctions outside its range; the east's cycle is also wrong where it is not the west's."""
+    place = both_places(record, range_place, EAST)
+    if place is None and record[EAST + 80] != record[80]:
+        return EAST + 80
+    return place
+
+
+def storage_place(record):
+    """Lowest storage outside its range, or None."""
+    least, largest = STORAGE_LIMITS
+    return next((place for place in range(STORAGES, TRAVEL) if not least <= record[place] <= largest), None)
+
+
+def travel_place(record):
+    """The travel time's place where it is outside its range."""
+    least, largest = TRAVEL_LIMITS
+    return None if least <= record[TRAVEL] <= largest else TRAVEL
+
+
+def judge_diamond(record):
+    """(number, place) of the first refusal that applies to a record, (0, 0) if there is none."""
+    if len(record) != RECORD:
+        return (1, 0)
+    places = ((3, diamond_range_place(record)), (4, both_places(record, shared_place, 4)),
+              (5, both_places(record, nolane_place, 12)), (7, storage_place(record)), (8, travel_place(record)))
+    return next(((number, place) for number, place in places if place is not None), (0, 0))
+
+
+def interchange_time(leg, g):
+    """What a group of an approach takes at an interchange: free rights take nothing."""
+    return 0 if g == R and leg.free else leg.line[16 + g]
+
+
+def side_times(legs, side):
+    """The seven times of a junction: entering through and right, the other junction's left and through, the ramp's three."""
+    entering, crossing, ramp = (legs[a] for a in SIDES[side])
+    return ([interchange_time(entering, g) for g in (T, R)] + [interchange_time(crossing, g) for g in (L, T)]
+            + [interchange_time(ramp, g) for g in (L, T, R)])
+
+
+def isolated(times):
+    """Isolated time 1, the alternate and the larger of the two, of one junction."""
+    through, right, left, back, ramp_left, ramp_through, ramp_right = times
+    first = max(through, right) + left + max(ramp_left, ramp_through)
+    alternate = back + max(ramp_left, ramp_through, ramp_right)
+    return first, alternate, max(first, alternate)
+
+
+def overlap(times, travel):
+    """How long the next phase may start ahead: the travel time, or all that enters if that is less."""
+    return min(travel, max(times[:2]))
+
+
+def leading_alternate(west, east, travel):
+    """Each entry and each ramp in turn, ramps held twice the travel time, less the overlaps."""
+    total = sum(max(times[:2]) + max(times[4:] + [2 * travel]) for times in (west, east))
+    return total - overlap(east, travel) - overlap(west, travel)
+
+
+def per_cycle(record, k):
+    """N of storage k: 3600 times the lefts that come in a cycle, by their entry."""
+    side, a = STORED[k]
+    return record[EAST * side + 15 * a + 1] * record[80]
+
+
+def fits(n, storage):
+    """Whether the storage ratio is below 1: x + 1.28 roots of x, with x = n/3600, is less than the storage."""
+    room = 3600 * storage - n
+    return room > 0 and 16384 * 3600 * n < 10000 * room**2
+
+
+def storage_fits(record):
+    """Whether the ratio of each storage is below 1."""
+    return [fits(per_cycle(record, k), record[STORAGES + k]) for k in range(4)]
+
+
+def plans(record, west, east):
+    """Leading alternate, lagging and lead-lag; BLANK where the storages do not allow a plan."""
+    below = storage_fits(record)
+    together = max(isolated(west)[2], isolated(east)[2])
+    return [leading_alternate(west, east, record[TRAVEL]), together if all(below) else BLANK,
+            together if all(below[k] for k in OFF_RAMP) else BLANK]
+
+
+def diamond(record):
+    """The 29 cells of a diamond interchange. The record must be acceptable."""
+    refusal = judge_diamond(record)
+    if refusal != (0, 0):
+        raise ValueError("refused: %d at %d" % refusal)
+    west, east = (side_times(worked_legs(entries), side) for side, entries in enumerate(halves(record)))
+    pairs = list(zip(isolated(west), isolated(east))) + [(overlap(west, record[TRAVEL]), overlap(east, record[TRAVEL]))]
+    three = plans(record, west, east)
+    best = min(three)
+    icu = up(best, record[80])
+    return west + east + [x for pair in pairs for x in pair] + three + [three.index(best), best, icu, letter(icu)]
+
+
 # ---------------------------------------------------------------- study file and listing
 
 def number_at(data, at):

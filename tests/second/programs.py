@@ -2,8 +2,8 @@
 
     python3 tests/second/programs.py PART
 
-PART is one of: usage, samples, junctions, runs, typed, damaged, studies, amendments, kept. Programs are taken from target/bin and samples
-from samples/table, under the project's root, where this is to be started. The last line counts what was compared.
+PART is one of: usage, samples, junctions, runs, typed, damaged, studies, amendments, kept, diamond. Programs are taken from target/bin and
+samples from samples/, under the project's root, where this is to be started. The last line counts what was compared.
 """
 
 import os
@@ -16,12 +16,14 @@ import tempfile
 
 sys.dont_write_bytecode = True  # leave no cache beside the sources
 
+import diamonds
 import icu2003
 import junctions
 import table
 
 BIN = os.path.abspath("target/bin")
 SAMPLES = "samples/table"
+DIAMONDS = "samples/diamond"
 NAMES = list(table.TITLES)
 MARK = b"\xef\xbb\xbf"  # a byte-order mark
 WORD_MOST = 4096  # the bytes of an argument
@@ -208,6 +210,32 @@ def damaged(rng, data):
 
 # ---------------------------------------------------------------- the parts
 
+# What icuamend says of the words of a change.
+SAID_OF_CHANGES = (
+    (("EBQ", "volume", "1"), b"EBQ: no movement, no approach and not the junction has this name\n"),
+    (("ebt", "volumes", "x"), b"ebt: no movement, no approach and not the junction has this name\n"),
+    (("", "volume", "1"), b": no movement, no approach and not the junction has this name\n"),
+    (("volume", "volume", "1"), b"volume: no movement, no approach and not the junction has this name\n"),
+    (("EBT", "volumes", "1"), b"volumes: no entry has this name there\n"),
+    (("EBT", "EBT", "1"), b"EBT: no entry has this name there\n"),
+    (("junction", "volume", "1"), b"volume: no entry has this name there\n"),
+    (("EB", "volume", "1"), b"volume: no entry has this name there\n"),
+    (("EBT", "volume", "-1"), b"-1: a whole number without a unit is expected here\n"),
+    (("EBT", "volume", ""), b": a whole number without a unit is expected here\n"),
+    (("EBT", "volume", "0" * 5000), b": a whole number without a unit is expected here\n"),
+    (("EBT", "volume", "4s"), b"4s: a whole number without a unit is expected here\n"),
+    (("junction", "cycle", "120s"), b"120s: a whole number without a unit is expected here\n"),
+    (("EBT", "lost-time", "4"), b"4: a time is written with its unit, as 4s, 4.5s or 4000ms\n"),
+    (("EB", "pedestrian-time", "16000"), b"16000: a time is written with its unit, as 4s, 4.5s or 4000ms\n"),
+    (("EBT", "lost-time", "20.001s"), b"R3: EBT lost-time is outside 0s to 20s\n"),
+    (("EBT", "", "1"), b": no entry has this name there\n"),
+    (("EBL", "storage", "20"), b"storage: no entry has this name there\n"),
+    (("junction", "travel-time", "7s"), b"travel-time: no entry has this name there\n"),
+    (("EBT", "lost-time", "4294968s"), b"4294968s: this number is too large\n"),
+    (("EBT", "volume", "4294967296"), b"4294967296: this number is too large\n"),
+)
+
+
 def usage(b):
     """Called with nothing or with a wrong word, each program says how it is used."""
     for program, calls in (("icusheet", ((), ("a", "1", "c"))),
@@ -220,30 +248,12 @@ def usage(b):
             b.same("output of %s" % program, out, b"")
             b.same("usage of %s" % program, said.startswith(b"usage: %s " % program.encode()), True)
     study = b.put("s.icus", study_of([junctions.K1]))
-    for words, said in ((("EBQ", "volume", "1"), b"EBQ: no movement, no approach and not the junction has this name\n"),
-                        (("ebt", "volumes", "x"), b"ebt: no movement, no approach and not the junction has this name\n"),
-                        (("", "volume", "1"), b": no movement, no approach and not the junction has this name\n"),
-                        (("volume", "volume", "1"), b"volume: no movement, no approach and not the junction has this name\n"),
-                        (("EBT", "volumes", "1"), b"volumes: no entry has this name there\n"),
-                        (("EBT", "EBT", "1"), b"EBT: no entry has this name there\n"),
-                        (("junction", "volume", "1"), b"volume: no entry has this name there\n"),
-                        (("EB", "volume", "1"), b"volume: no entry has this name there\n"),
-                        (("EBT", "volume", "-1"), b"-1: a whole number without a unit is expected here\n"),
-                        (("EBT", "volume", ""), b": a whole number without a unit is expected here\n"),
-                        (("EBT", "volume", "0" * 5000), b": a whole number without a unit is expected here\n"),
-                        (("EBT", "volume", "4s"), b"4s: a whole number without a unit is expected here\n"),
-                        (("junction", "cycle", "120s"), b"120s: a whole number without a unit is expected here\n"),
-                        (("EBT", "lost-time", "4"), b"4: a time is written with its unit, as 4s, 4.5s or 4000ms\n"),
-                        (("EB", "pedestrian-time", "16000"), b"16000: a time is written with its unit, as 4s, 4.5s or 4000ms\n"),
-                        (("EBT", "lost-time", "20.001s"), b"R3: EBT lost-time is outside 0s to 20s\n"),
-                        (("EBT", "", "1"), b": no entry has this name there\n"),
-                        (("EBT", "lost-time", "4294968s"), b"4294968s: this number is too large\n"),
-                        (("EBT", "volume", "4294967296"), b"4294967296: this number is too large\n")):
+    for words, said in SAID_OF_CHANGES:
         b.same("said", b.run("icuamend", study, "1", *words), (b"", said))
         b.same("words", several_changes(junctions.K1, [word.encode() for word in words])[0], (b"", said))
     out, said = b.run("icuamend", "--help")
     b.same("help", (out, said), (b.run("icuamend")[1], b""))
-    b.same("version", b.run("icuamend", "--version"), (b"icu2003 1.1\n", b""))
+    b.same("version", b.run("icuamend", "--version"), (b"icu2003 1.2\n", b""))
     for word in ("0", "2", "x", "", "4294967296"):
         b.same("no site", b.run("icuamend", study, word, "EBQ", "volume", "1"), (b"", word.encode() + b": the study has 1 site\n"))
     b.same("no study", b.run("icuamend", "nothing", "1", "EBQ", "volume", "1"), (b"", b"nothing: cannot be read\n"))
@@ -259,7 +269,7 @@ def usage(b):
         b.same("no study file", b.run("icusheet", text, word), (b"", text.encode() + b": R6: this is no study file\n"))
     for program, more in (("icusheet", ()), ("icustudy", ())):
         b.same("help", b.run(program, "--help"), (b.run(program)[1], b""))
-        b.same("version", b.run(program, "--version"), (b"icu2003 1.1\n", b""))
+        b.same("version", b.run(program, "--version"), (b"icu2003 1.2\n", b""))
     for missing in ("nothing", ".", ""):
         b.same("missing", b.run("icusheet", missing), (b"", missing.encode() + b": cannot be read\n"))
     b.same("unwritable", b.run("icustudy", "make", ".", os.path.join(SAMPLES, "k1.txt")), (b"", b".: cannot be written\n"))
@@ -390,12 +400,14 @@ def damaged_texts(b):
     for data in (b"", b"\n", b"#", b"EBL", b"EBL lanes", b"EBL lanes ", b"lanes 1", b"EB lanes 1", b"EBL lanes 1 lanes 1",
                  b"junction cycle 29", b"junction cycle 4294967295", b"junction cycle 4294967296", b"EBL 1", b"ebl lanes 1",
                  b"EBL\0 lanes 1", b"EBL lanes 1,", b"junctions cycle 60", b"pedestrian-times 1",
-                 b"EBL lost-time 4", b"EBL lost-time 4000", b"EBL lost-time 4.5s", b"EBL lost-time 4.5ms", b"EBL lost-time 4.1234s", b"EBL lost-time 20.001s",
+                 b"EBL lost-time 4", b"EBL lost-time 4000", b"EBL lost-time 4.5s", b"EBL lost-time 4.5ms", b"EBL lost-time 4.1234s",
+                 b"EBL lost-time 20.001s", b"EBL storage 20", b"junction travel-time 7s", b"storage 20",
                  b"EBL lost-time 99999999999.5s", b"EB pedestrian-time 16", b"EBL volume 4s", b"junction cycle 120s", b"EBL lanes 99999999999",
                  b"Stra\xc3\x9fe", b"x" * 24, b"x" * 25, b"\x1b[31mEBL", b"\"EBL\"", b"EBL lanes 1\n  lane 2", b"EBL\tlanes\xc2\xa01",
                  b"title", b"title ", b'title "', b'title ""', b'title "x"', b'title "x"EBL lanes 1', b'title"x"', b"titles", b'title "x" title "y"',
                  b'EBL lanes 1 title "x"', b'# c\n \ttitle\r\n"x"# c', b'title "' + b"x" * 60 + b'"', b'title "' + b"x" * 61 + b'"', b"title 'x'",
-                 b'title "a\nb"', b'title "a\x7fb"', b'title "\xff\xfe"', b'Title "x"', b'title "x\nEBL volume 5', b'title # a comment\n"Elm"', b'title "Elm""',
+                 b'title "a\nb"', b'title "a\x7fb"', b'title "\xff\xfe"', b'Title "x"', b'title "x\nEBL volume 5', b'title # a comment\n"Elm"',
+                 b'title "Elm""',
                  b'title "\x1b[31m"', b'title "#"', b'#title "Elm"', b"junction title", b'title "Elm" EBL lanes', b'title "Elm"\njunction cycle 29',
                  b'title "Elm"\nEBL lane 1', b"tit", b'title \xc2\xa0"Elm"'):
         unread(b, data)
@@ -685,8 +697,167 @@ def kept(b):
             b.count += bench.count
 
 
+# ---------------------------------------------------------------- diamond interchanges
+
+DIAMOND_USE = (b"usage: icudiamond WEST EAST WBL EBL EASTBOUND WESTBOUND TRAVEL\n"
+               b"                             prints the worksheet of a diamond interchange: the texts of its west and its east\n"
+               b"                             junction; the vehicles that find room for WB left, for EB left and on the road\n"
+               b"                             between, eastbound and westbound; and the time from one to the other, as 7.1s\n"
+               b"       icudiamond --help     prints this, and --version the version\n")
+DIAMOND_KINDS = ("storage",) * 4 + ("travel-time",)
+NO_DIAMOND_TEXT = b"this is a study file: name a junction's text, as icustudy show prints one\n"
+
+
+def said_of_junction(data):
+    """What is said of a file that is no junction's text; None stands for a file that cannot be read."""
+    if data is None:
+        return b"cannot be read\n"
+    return NO_DIAMOND_TEXT if icu2003.study_check(data) == (0, 0) else table.said_of(data).encode()
+
+
+def diamond_run(words, files):
+    """What icudiamond prints and says of its seven words; files holds what is in the two that are named first."""
+    words, numbers = [word_taken(word) for word in words], []
+    for name, data in zip(words, files):
+        said = said_of_junction(data)
+        if said:
+            return b"", name + b": " + said
+    for word, kind in zip(words[2:], DIAMOND_KINDS):
+        try:
+            numbers.append(table.value_of(kind, word))
+        except table.Wrong as wrong:
+            return b"", word + b": " + wrong.args[1].encode() + b"\n"
+    record = diamonds.record(table.read_text(files[0]), table.read_text(files[1]), numbers[:4], numbers[4])
+    number, place = icu2003.judge_diamond(record)
+    if number == 3:
+        return b"", words[1] + b": R3: the cycle is not that of the west junction\n"
+    if number:
+        return b"", words[2 + place - icu2003.STORAGES] + b": " + table.refusal_text(number, place).encode() + b"\n"
+    return diamonds.page((words[0], files[0]), (words[1], files[1]), record), b""
+
+
+def diamond_is(b, what, words, files):
+    """Two files beside each other and the words after their names: as expected."""
+    paths = [b.put(name, data) if data is not None else b.path("missing") for name, data in zip(("west.txt", "east.txt"), files)]
+    named = [path.encode() for path in paths] + list(words)
+    b.same(what, b.run("icudiamond", *named), diamond_run(named, files))
+
+
+def diamond_words(record):
+    return [word.encode() for word in diamonds.words_of(record)]
+
+
+def diamond_usage(b):
+    """Any other number of words than seven; help and version; and an output that is full or closed."""
+    for count in (0, 1, 2, 3, 4, 5, 6, 8, 9, 100):
+        b.same("usage", b.run("icudiamond", *["1"] * count), (b"", DIAMOND_USE))
+    for words in (["--help", "x"], ["--version", "--help"], ["-h"], ["--help"] * 6, ["x"] * 7 + ["--help"]):
+        b.same("usage", b.run("icudiamond", *words), (b"", DIAMOND_USE))
+    b.same("help", b.run("icudiamond", "--help"), (DIAMOND_USE, b""))
+    b.same("version", b.run("icudiamond", "--version"), (b"icu2003 1.2\n", b""))
+    b.same("seven wishes", b.run("icudiamond", *["--help"] * 7), (b"", b"--help: cannot be read\n"))
+    b.put("k1.txt", table.write_text(junctions.K1).encode())
+    for words in (["k1.txt", "k1.txt", "9", "9", "9", "9", "7s"], ["--help"], ["--version"]):
+        was = b.held()
+        with open("/dev/full", "wb") as full:
+            b.same("full", b.run_so(0, "icudiamond", words, out=full), (b"", b"icudiamond" + NO_OUTPUT))
+        b.same("closed", b.run_so(0, "icudiamond", words, before=lambda: os.close(1), out=None), (b"", b"icudiamond" + NO_OUTPUT))
+        b.same("all stays", b.held(), was)
+
+
+def diamond_samples(b):
+    """The samples as they are called by name, and every named interchange."""
+    diamonds.main(b.folder)
+    for name, _, _ in diamonds.SAMPLES:
+        for kind in ("-west.txt", "-east.txt", ".words", ".page"):
+            with open(os.path.join(DIAMONDS, name + kind), "rb") as f:
+                b.same(name + kind, f.read(), b.get(name + kind))
+        texts = [os.path.join(DIAMONDS, name + way) for way in ("-west.txt", "-east.txt")]
+        b.same(name, b.run("icudiamond", *texts, *b.get(name + ".words").decode().split()), (b.get(name + ".page"), b""))
+    for name, record in diamonds.all_diamonds():
+        if len(record) == icu2003.RECORD:
+            diamond_is(b, name, diamond_words(record), [table.write_text(entries).encode() for entries in icu2003.halves(record)])
+
+
+def fair(rng):
+    """Entries that are acceptable, once in ten times perhaps not."""
+    entries = likely(rng)
+    while icu2003.judge(entries) != (0, 0) and rng.random() < 0.9:
+        entries = likely(rng)
+    return entries
+
+
+def likely_diamond(rng):
+    """A record that is mostly acceptable."""
+    west, east = fair(rng), fair(rng)
+    if rng.random() < 0.9:
+        east[80] = west[80]
+    storages = [rng.choice((1, 999, rng.randint(1, 999), rng.randint(1, 60))) for _ in range(4)]
+    record = diamonds.record(west, east, storages, rng.choice((0, 60000, rng.randint(0, 60000), rng.randint(0, 20000))))
+    if rng.random() < 0.2:
+        record[rng.randrange(162, 167)] = rng.choice((0, 1000, 60001, 2**32 - 1, 999, 60000))
+    return record
+
+
+def diamond_typed(b):
+    """Texts in any layout with any title, words in each way they may be typed; names that would steer a terminal; the same file twice."""
+    for _ in range(150):
+        record = likely_diamond(b.rng)
+        files = [(any_title(b.rng) if b.rng.random() < 0.3 else b"") + loosely(b.rng, entries) for entries in icu2003.halves(record)]
+        words = [typed_value(b.rng, kind, value).encode() for kind, value in zip(DIAMOND_KINDS, record[162:])]
+        diamond_is(b, "typed", words, files)
+    text = b'title "Elm"\n' + table.write_text(junctions.K1).encode()
+    for name in ("a\x1b[31mb.txt", "x\x7f", "new\nline", "Stra\xdfe", "a b", "east: b", "n" * 200):
+        named = [b.put(name, text).encode()] * 2 + [b"9", b"9", b"9", b"9", b"0s"]
+        b.same("name", b.run("icudiamond", *named), diamond_run(named, [text] * 2))
+        named[5] = b"0"
+        b.same("name and no storage", b.run("icudiamond", *named), diamond_run(named, [text] * 2))
+
+
+def diamond_wrong_words(b):
+    """Words that are no storage or no travel time, one or several of them, beside refused numbers and another cycle."""
+    good = [table.write_text(entries).encode() for entries in icu2003.halves(diamonds.book())]
+    other = [good[0], good[1].replace(b"cycle 120", b"cycle 121")]
+    hostile = HOSTILE + (b"0", b"1", b"999", b"1000", b"4294967295", b"4294967296", b"0s", b"60s", b"60.001s", b"60000ms", b"60001ms", b"7.1",
+                         b"4294967.295s", b"4294967.296s", b"19.4", b"007", b"0007.100s", b" 7s", b"7s ", b"0" * 5000)
+    usual = [b"19", b"19", b"26", b"26", b"7.1s"]
+    for place in range(5):
+        for word in hostile:
+            diamond_is(b, "word", usual[:place] + [word] + usual[place + 1:], good)
+    for _ in range(120):
+        words = [b.rng.choice(hostile) if b.rng.random() < 0.4 else word for word in usual]
+        diamond_is(b, "words", words, b.rng.choice((good, other)))
+
+
+def diamond_wrong_files(b):
+    """Damaged texts, study files, any bytes and nothing, in one place or both; the first of them is spoken of."""
+    good = [table.brief_text("Book", entries).encode() for entries in icu2003.halves(diamonds.book())]
+    bad = [b"", None, study_of([]), study_of([junctions.K1, K2]), study_of([junctions.K1])[:-1], MARK + good[0], b"x" * 66000, b" " * 65536,
+           b"junction cycle 29", b"EBL volume 5", b"EBT lanes 1\nEBL volume 5\nEB shared-lane 1 ", b"EB shared-lane 1", good[0] + b"lanes", b"title x",
+           b" " * 200000, bytes(range(256))]
+    words = [b"19", b"19", b"26", b"26", b"7.1s"]
+    for data in bad:
+        for files in ([data, good[1]], [good[0], data], [data, data], [data, b"?"], [b"?", data]):
+            diamond_is(b, "file", words, files)
+            diamond_is(b, "file and words", [b"x"] * 5, files)
+    for _ in range(250):
+        files = [damaged(b.rng, data) if b.rng.random() < 0.7 else data for data in good]
+        diamond_is(b, "damaged", words if b.rng.random() < 0.8 else [b"0", b"1000", b"1", b"1", b"61s"], files)
+    west = b.put("west.txt", good[0]).encode()
+    for name in (b"nothing", b".", b"", west + b"/x", b"n" * 5000):
+        for named in ([name, west], [west, name], [name, name]):
+            files = [good[0] if path == west else None for path in named]
+            b.same("unread", b.run("icudiamond", *named, *words), diamond_run(named + words, files))
+
+
+def diamond(b):
+    """icudiamond: its pages, and all that it says."""
+    for part in (diamond_usage, diamond_samples, diamond_typed, diamond_wrong_words, diamond_wrong_files):
+        part(b)
+
+
 PARTS = {"usage": usage, "samples": samples, "junctions": named, "runs": runs, "typed": typed, "damaged": damaged_texts, "studies": studies,
-         "amendments": amendments, "kept": kept}
+         "amendments": amendments, "kept": kept, "diamond": diamond}
 
 
 def main(part):

@@ -8,11 +8,13 @@ otherwise the exit status is 1.
 
 import random
 import sys
-from decimal import Decimal, getcontext
+from decimal import ROUND_CEILING, Decimal, getcontext
 from fractions import Fraction
+from math import isqrt
 
 sys.dont_write_bytecode = True  # leave no cache beside the sources
 
+import diamonds
 import icu2003
 import junctions
 import table
@@ -485,8 +487,8 @@ def check_again(rounds):
         check("cells fit 32 bits", all(0 <= x <= BLANK for x in sheet), True)
 
 
-def again_judge(e):
-    """All refusals that apply, the first in order taken."""
+def again_refusals(e):
+    """All refusals of entries that apply."""
     found = [(3, i) for i in range(81) if e[i] != min(max(e[i], icu2003.limits(i)[0]),
                                                       icu2003.limits(i)[1])]
     for a in range(4):
@@ -496,7 +498,12 @@ def again_judge(e):
         found += [(5, 3 * a)] if v_l and not (n_l or shared) else []
         found += [(5, 3 * a + 1)] if v_t and not n_t else []
         found += [(5, 3 * a + 2)] if v_r and not (n_r or n_t) else []
-    return min(found, default=(0, 0))
+    return found
+
+
+def again_judge(e):
+    """The first in order of them."""
+    return min(again_refusals(e), default=(0, 0))
 
 
 def check_judge(rounds):
@@ -640,6 +647,205 @@ def check_study_write():
     check("no sites", (write([], out), out[:12]), ((0, 0), b"ICUS\0\0\0\0" + old_offset))
 
 
+# ---------------------------------------------------------------- diamond interchanges
+
+DIAMONDS = dict(diamonds.all_diamonds())
+
+
+def again_interchange(entries):
+    """Line 24 of chapter 6 in seconds, by the movement's name."""
+    sheet, times = again(entries), {}
+    for a, name in enumerate(("EB", "WB", "NB", "SB")):
+        for turn, line in zip("LTR", (16, 17, 18)):
+            free = turn == "R" and entries[64 + 5 * a] == 1
+            times[name + turn] = Fraction(0) if free else sheet[81 + 28 * a + line - 1] * MS
+    return times
+
+
+def again_below(lefts, cl, storage):
+    """Whether the 90th percentile of a cycle's lefts is less than the storage: what 1.28 roots may be, squared."""
+    v_cy = Fraction(lefts * cl, 3600)
+    spare = (storage - v_cy) / Fraction(128, 100)
+    return spare > 0 and v_cy < spare**2
+
+
+def again_plans(record, isolated, leading):
+    """The three plans in seconds, None where a storage is too short for one."""
+    lefts = (record[16], record[81 + 1], record[46], record[81 + 31])
+    wbl, ebl, sbl, nbl = (again_below(v, record[80], storage) for v, storage in zip(lefts, record[162:166]))
+    return [leading, isolated if wbl and ebl and sbl and nbl else None, isolated if sbl and nbl else None]
+
+
+def again_diamond(record):
+    """The 29 cells from the book's shapes of lines 24 to 37."""
+    w, e, travel = again_interchange(record[:81]), again_interchange(record[81:162]), record[166] * MS
+    eb_in, wb_in = max(w["EBT"], w["EBR"]), max(e["WBT"], e["WBR"])
+    sb, nb = max(w["SBL"], w["SBT"], w["SBR"]), max(e["NBL"], e["NBT"], e["NBR"])
+    first = (eb_in + w["WBL"] + max(w["SBL"], w["SBT"]), wb_in + e["EBL"] + max(e["NBL"], e["NBT"]))
+    other = (w["WBT"] + sb, e["EBT"] + nb)
+    larger = tuple(max(pair) for pair in zip(first, other))
+    t_ow, t_oe = min(travel, eb_in), min(travel, wb_in)
+    leading = eb_in + max(sb, 2 * travel) - t_oe + wb_in + max(nb, 2 * travel) - t_ow
+    three = again_plans(record, max(larger), leading)
+    best, pick = min((time, k) for k, time in enumerate(three) if time is not None)
+    icu = up_to(best / record[80], MS)
+    grade = next((i for i, end in enumerate((55, 64, 73, 82, 91, 100, 109)) if icu * 100 <= end), 7)
+    times = [w[name] for name in "EBT EBR WBL WBT SBL SBT SBR".split()] + [e[name] for name in "WBT WBR EBL EBT NBL NBT NBR".split()]
+    times += first + other + larger + (t_ow, t_oe)
+    return ([x * 1000 for x in times] + [BLANK if x is None else x * 1000 for x in three] + [pick, best * 1000, icu * 1000, grade])
+
+
+def again_judge_diamond(record):
+    """All refusals of a record that apply, the first in order taken."""
+    found = []
+    for east, entries in enumerate((record[:81], record[81:162])):
+        steps = {3: 81, 4: 4, 5: 12}
+        found += [(number, place + east * steps[number]) for number, place in again_refusals(entries)]
+    found += [(3, 161)] if record[161] != record[80] else []
+    found += [(7, place) for place in (162, 163, 164, 165) if record[place] not in range(1, 1000)]
+    found += [(8, 166)] if record[166] > 60000 else []
+    return min(found, default=(0, 0))
+
+
+def check_example_3():
+    record = DIAMONDS["book example 3"]
+    cells = icu2003.diamond(record)
+    check("example 3, west", cells[:7], [27052, 0, 13759, 38664, 20265, 39895, 0])
+    check("example 3, east", cells[7:14], [22908, 0, 16632, 29211, 30024, 0, 11059])
+    check("example 3, isolated and overlaps", cells[14:22], [80706, 69564, 78559, 59235, 80706, 69564, 7100, 7100])
+    check("example 3, plans", cells[22:], [105679, BLANK, BLANK, 0, 105679, 881, 4])
+    check("example 3, storages", icu2003.storage_fits(record), [True, True, True, False])
+    printed = [27.0, 0, 13.8, 38.7, 20.3, 39.9, 0, 22.9, 0, 16.6, 29.2, 30.0, 0, 11.1, 80.7, 69.6, 78.5, 59.2, 80.7, 69.6, 7.1, 7.1, 105.6]
+    check("example 3, the book's figures", [abs(x / 1000 - y) < 0.08 for x, y in zip(cells, printed)], [True] * 23)
+
+
+def check_named_diamonds():
+    for name, wanted in (
+            ("lagging picked", [80846, 57423, 57423, 1, 57423, 479, 0]),
+            ("lead-lag picked, WB left does not fit", [80846, BLANK, 57423, 2, 57423, 479, 0]),
+            ("lead-lag picked, EB left does not fit", [80846, BLANK, 57423, 2, 57423, 479, 0]),
+            ("leading alternate alone, the road eastbound too short", [80846, BLANK, BLANK, 0, 80846, 674, 2]),
+            ("leading alternate alone, the road westbound too short", [80846, BLANK, BLANK, 0, 80846, 674, 2]),
+            ("leading alternate picked, all allowed", [15500, 18000, 18000, 0, 15500, 155, 0]),
+            ("leading alternate ties with both", [50000, 50000, 50000, 0, 50000, 500, 0]),
+            ("leading alternate ties with lead-lag", [50000, BLANK, 50000, 0, 50000, 500, 0]),
+            ("nobody drives", [240000, 0, 0, 1, 0, 0, 0]),
+            ("travel 0", [87584, 57423, 57423, 1, 57423, 479, 0]),
+            ("travel 60 s", [240000, 57423, 57423, 1, 57423, 479, 0]),
+            ("storages of 1", [80846, BLANK, BLANK, 0, 80846, 674, 2]),
+            ("storages of 999", [80846, 57423, 57423, 1, 57423, 479, 0]),
+            ("a ratio of 1 exactly", [1293844, BLANK, BLANK, 0, 1293844, 5392, 7]),
+            ("one vehicle more of room", [1293844, 1267844, 1267844, 1, 1267844, 5283, 7])):
+        check(name, icu2003.diamond(DIAMONDS[name])[22:], wanted)
+    every = icu2003.diamond(DIAMONDS["every time its own"])
+    check("every time its own", every[:14], [9000, 8000, 3000, 7000, 6000, 5000, 4000, 9500, 100, 2000, 6000, 5500, 6500, 7500])
+    check("every sum its own", every[14:23], [18000, 18000, 13000, 13500, 18000, 18000, 1234, 1234, 29532])
+    check("overlaps no longer than what enters", icu2003.diamond(DIAMONDS["travel 60 s"])[20:22], [29211, 27635])
+    free, held = icu2003.diamond(DIAMONDS["free rights on every leg"]), icu2003.diamond(DIAMONDS["the same rights held"])
+    check("free rights", [(x, y) for x, y in zip(free[:14], held) if x != y], [(0, 53412)] * 4)
+    check("other legs", icu2003.diamond(DIAMONDS["other legs change nothing"]), held)
+    check("lefts of shared lanes", [icu2003.diamond(DIAMONDS["shared lanes on the arterial"])[k] for k in (2, 9)], [0, 0])
+    check("crossings", [icu2003.diamond(DIAMONDS["people cross at closed legs"])[k] for k in (0, 5, 10, 12)], [21836] * 4)
+
+
+def check_diamond_refusals():
+    for name, wanted in (
+            ("a cycle of 29", (3, 80)), ("the east's cycle another", (3, 161)), ("the east's cycle another and out of range", (3, 161)),
+            ("the east's cycle another, an entry before it out of range", (3, 83)), ("both cycles out of range", (3, 80)),
+            ("an entry of each junction out of range", (3, 79)), ("an entry of the east out of range, all else wrong", (3, 81)),
+            ("shared lanes in both junctions", (4, 1)), ("a shared lane in the east", (4, 4)), ("no lane in both junctions", (5, 10)),
+            ("no lane in the east", (5, 20)), ("storages out of range", (7, 162)), ("the last storage out of range", (7, 165)),
+            ("the travel time out of range", (8, 166)), ("166 numbers", (1, 0)), ("168 numbers", (1, 0))):
+        check(name, icu2003.judge_diamond(DIAMONDS[name]), wanted)
+    good = DIAMONDS["lagging picked"]
+    for place in range(167):
+        least, largest = icu2003.limits(place % 81) if place < 162 else (1, 999) if place < 166 else (0, 60000)
+        number = 3 if place < 162 else 7 if place < 166 else 8
+        for value in {least - 1, largest + 1, BLANK} - {-1}:
+            check("record's %d as %d" % (place, value), icu2003.judge_diamond(junctions.changed(good, {place: value})), (number, place))
+    for cycle in (30, 119, 240):
+        check("another cycle", icu2003.judge_diamond(junctions.changed(good, {161: cycle})), (3, 161))
+        check("the west's cycle", icu2003.judge_diamond(junctions.changed(good, {80: cycle})), (3, 161))
+
+
+def check_ratio(rounds):
+    """The whole-number test of each storage against the root it stands for: where it turns, on the point, and anywhere."""
+    getcontext().prec = 60
+    for storage in range(1, 1000):
+        root = ((Decimal("1.6384") + 4 * storage).sqrt() - Decimal("1.28")) / 2
+        end = int((3600 * root * root).to_integral_value(rounding=ROUND_CEILING))  # the first N that does not fit
+        check("storage %d" % storage, [icu2003.fits(n, storage) for n in (0, 1, end - 1, end, end + 1, 3600 * storage - 1, 3600 * storage)],
+              [True, True, True, False, False, False, False])
+        check("storage %d in fractions" % storage, [again_below(n, 1, storage) for n in (end - 1, end)], [True, False])
+    check("x is 625 and so 657 on the point", [icu2003.fits(2250000, storage) for storage in (656, 657, 658)], [False, False, True])
+    check("the only such storage", [x for x in range(1, 1000) if isqrt(16384 + 40000 * x)**2 == 16384 + 40000 * x
+                                    and at_root(x).denominator == 1], [657])
+    rng = random.Random(128)
+    for _ in range(20 * rounds):
+        lefts, cl, storage = rng.randint(0, 9999), rng.randint(30, 240), rng.choice((1, 999, rng.randint(1, 999)))
+        if rng.random() < 0.7:
+            x = Decimal(lefts * cl) / 3600
+            storage = min(999, max(1, int(x + Decimal("1.28") * x.sqrt()) + rng.randint(0, 1)))
+        check("ratio of %d, %d, %d" % (lefts, cl, storage), icu2003.fits(lefts * cl, storage), again_below(lefts, cl, storage))
+
+
+def at_root(storage):
+    """N where the ratio is 1 exactly, of a storage whose root is a fraction."""
+    return 3600 * ((Fraction(isqrt(16384 + 40000 * storage), 100) - Fraction(128, 100)) / 2)**2
+
+
+def random_record(rng):
+    """An acceptable record, often with a storage that just fits or just does not."""
+    west, east = random_entries(rng), random_entries(rng)
+    if rng.random() < 0.2:
+        east = list(west)
+    east[80] = west[80]
+    record = west + east + [rng.choice((1, 999, rng.randint(1, 999))) for _ in range(4)]
+    record.append(rng.choice((0, 60000, rng.randint(0, 60000), rng.randint(0, 15000))))
+    for k in range(4):
+        x = Decimal(icu2003.per_cycle(record, k)) / 3600
+        if rng.random() < 0.8:
+            record[162 + k] = min(999, max(1, int(x + Decimal("1.28") * x.sqrt()) + rng.choice((0, 1, 1, 1, 2))))
+    return record
+
+
+def check_diamonds(rounds):
+    rng = random.Random(167)
+    seen = set()
+    for name, record in diamonds.all_diamonds():
+        if icu2003.judge_diamond(record) == (0, 0):
+            check("spelled again: " + name, icu2003.diamond(record), again_diamond(record))
+    for i in range(rounds):
+        record = random_record(rng)
+        check("acceptable record", icu2003.judge_diamond(record), (0, 0))
+        cells = icu2003.diamond(record)
+        three, pick = cells[22:25], cells[25]
+        check("diamond spelled again, random %d" % i, cells, again_diamond(record))
+        check("picked", (three[pick], three.index(min(three))), (cells[26], pick))
+        check("lagging allowed, so lead-lag", three[1] in (BLANK, three[2]), True)
+        check("cells fit 32 bits", all(0 <= x <= BLANK for x in cells), True)
+        seen.add((pick, three[1] == BLANK, three[2] == BLANK))
+        for _ in range(rng.choice((0, 1, 1, 2, 3))):
+            place = rng.choice((rng.randrange(167), rng.randrange(162, 167), 60 + 5 * rng.randrange(4), 141 + 5 * rng.randrange(4),
+                                5 * rng.randrange(12), 81 + 5 * rng.randrange(12), 161))
+            record[place] = rng.choice((0, 1, 2, 7, 1000, 60001, BLANK))
+        check("judge of a record", icu2003.judge_diamond(record), again_judge_diamond(record))
+    check("each pick, by whether lagging and lead-lag are not allowed", seen,
+          {(0, True, True), (0, True, False), (0, False, False), (1, False, False), (2, True, False)})
+
+
+def check_pages():
+    for name, record in diamonds.all_diamonds():
+        if icu2003.judge_diamond(record) == (0, 0):
+            rows = diamonds.page_text(record).split("\n")
+            check("page of " + name, [len(row) for row in rows], [112] * 61 + [0])
+            check("numbers of " + name, len(diamonds.page_numbers(record)), 464)
+            cells = icu2003.diamond(record)
+            plans = ["NA" if x == BLANK else table.decimal(x, 3) for x in cells[22:25]]
+            plans[cells[25]] = "*" + plans[cells[25]]
+            check("plans of " + name, [row[35:].replace(" ", "") for row in rows[55:58]], plans)
+
+
 # ---------------------------------------------------------------- values in a text
 
 VALUES = (("lost-time", "4s", 4000), ("minimum-green", "4.5s", 4500), ("pedestrian-time", "4.125s", 4125), ("lost-time", "4000ms", 4000),
@@ -701,7 +907,8 @@ def check_values(rounds):
 def main(rounds):
     for part in (check_k1_k2, check_k3_to_k10, check_listing, check_letters, check_layout,
                  check_book_examples, check_named, check_closed_legs, check_refusals, check_decay,
-                 check_amend_answers, check_study_places, check_study_write):
+                 check_amend_answers, check_study_places, check_study_write, check_example_3, check_named_diamonds,
+                 check_diamond_refusals, check_pages):
         part()
     check_again(rounds)
     check_judge(rounds)
@@ -709,6 +916,8 @@ def main(rounds):
     check_history(rounds)
     check_study_round_trips(rounds=10)
     check_values(rounds)
+    check_ratio(rounds)
+    check_diamonds(rounds)
     print("%(passed)d passed, %(failed)d failed" % counts)
     return 1 if counts["failed"] else 0
 

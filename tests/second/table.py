@@ -22,7 +22,7 @@ MOVEMENT_KINDS = ("lanes", "volume", "ideal-flow", "lost-time", "minimum-green")
 APPROACH_KINDS = ("shared-lane", "pedestrians", "push-button", "pedestrian-time", "free-right")
 MOVEMENT_USUAL = (0, 0, 1900, 4000, 4000)
 APPROACH_USUAL = (0, 0, 0, 0, 0)
-TIMES = ("lost-time", "minimum-green", "pedestrian-time")  # kept in milliseconds, written with their unit
+TIMES = ("lost-time", "minimum-green", "pedestrian-time", "travel-time")  # kept in milliseconds, written with their unit
 
 
 # ---------------------------------------------------------------- entries by name
@@ -180,6 +180,10 @@ def refusal_text(number, place):
         said = "%s: a shared lane needs a through lane and no left lane beside it" % APPROACHES[place]
     elif number == 5:
         said = "%s: vehicles, and no lane that takes them" % GROUPS[place]
+    elif number == 7:
+        said = "the storage is outside %d to %d" % icu2003.STORAGE_LIMITS
+    elif number == 8:
+        said = "the travel time is outside %s to %s" % tuple(value_text("travel-time", limit) for limit in icu2003.TRAVEL_LIMITS)
     elif place == 0:
         said = "this is no study file"
     else:

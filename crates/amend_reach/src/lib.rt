@@ -104,6 +104,8 @@ impl Reach {
             Kind::PedestrianTime => Reach::CROSSING,
             Kind::FreeRight => Reach::NONE_MORE, // it goes into its right total alone
             Kind::Cycle => Reach::EVERY_LINE,
+            Kind::Storage => Reach::NONE_MORE, // no sheet has one
+            Kind::TravelTime => Reach::NONE_MORE,
         }
     }
 }

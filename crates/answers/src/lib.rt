@@ -10,6 +10,8 @@ pub enum Refusal {
     Shared,
     NoLane,
     File,
+    Store,
+    Travel,
 }
 
 // What a refusal's place counts.
@@ -19,6 +21,7 @@ pub enum Place {
     OfApproaches,
     OfMovements,
     OfBytes,
+    OfRecord,
 }
 
 pub enum Answer {
@@ -38,6 +41,8 @@ impl Refusal {
             Refusal::Shared => 4,
             Refusal::NoLane => 5,
             Refusal::File => 6,
+            Refusal::Store => 7,
+            Refusal::Travel => 8,
         }
     }
 
@@ -52,6 +57,8 @@ impl Refusal {
             Refusal::Shared => Place::OfApproaches,
             Refusal::NoLane => Place::OfMovements,
             Refusal::File => Place::OfBytes,
+            Refusal::Store => Place::OfRecord,
+            Refusal::Travel => Place::OfRecord,
         }
     }
 }

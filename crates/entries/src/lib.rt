@@ -179,7 +179,7 @@ impl Fault {
     }
 
     // How many entries, approaches or movements there are to be asked.
-    fn count(self) -> usize
+    pub fn count(self) -> usize
         ensures { λ r. ⌜ r ≡ countOf self ⌝ }
     {
         match self {
@@ -226,6 +226,18 @@ fn check_ranges(entries: &[u32]) -> Answer
         return Answer::Accepted;
     }
     check_each(entries, Fault::Range)
+}
+
+// The lowest place of one fault: what each of a diamond's junctions is asked, too.
+pub fn check_for(entries: &[u32], fault: Fault) -> Answer
+    requires { ⌜ length (now entries) ≡ entryCount ⌝ }
+    ensures { λ r. ⌜ r ≡ eachAnswer (now (entries .entry)) fault ⌝ }
+{
+    match fault {
+        Fault::Range => check_ranges(entries),
+        Fault::Shared => check_each(entries, Fault::Shared),
+        Fault::NoLane => check_each(entries, Fault::NoLane),
+    }
 }
 
 // The first refusal that applies to the entries, or acceptance.

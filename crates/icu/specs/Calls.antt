@@ -9,6 +9,8 @@ use Rattle.sheet.specs.Fill.{fillAnswer, filled}
 use Rattle.amend_sets.specs.Amend.{amendAnswer, amended}
 use Rattle.study.specs.Study.{judgement, countOf, siteEntriesAnswer, siteEntries, writeAnswer, fileOf}
 use Rattle.study_listing.specs.Listing.{listing, listAnswer}
+use Rattle.diamond_rules.specs.Record.{diamondAnswer}
+use Rattle.diamond_rules.specs.Lines.{rated}
 use Rattle.icu.specs.declared.IcuAnswer.{IcuAnswer}
 use Rattle.icu.specs.Told.{told}
 
@@ -47,3 +49,7 @@ abbrev pub listAllows : List ℕ → List ℕ → ℕ → IcuAnswer → List ℕ
 listAllows file old before one left size =
     let answer = listAnswer file (length old) in
     Allowed (told answer) (left-by answer (over old 0 (listing file)) old) one left × (size ≡ left-by answer (length (listing file)) before)
+
+-- from a record r, in cells that hold d
+abbrev pub diamondAllows : List ℕ → List ℕ → IcuAnswer → List ℕ → Type 0
+diamondAllows r d = Allowed (told (diamondAnswer r d)) (rated r d)

@@ -2,6 +2,7 @@
 ghost use mathlib.Core.Path.{_≡_};
 ghost use Rattle.icu.specs.Told.{told};
 ghost use Rattle.icu.specs.Calls.{fillAllows, amendAllows, checkAllows, countAllows, siteAllows, writeAllows, listAllows};
+ghost use Rattle.icu.specs.Calls.{diamondAllows};
 use answers::Answer;
 
 // Number 0 is accepted, with place 0; else the refusal's number and place.
@@ -73,4 +74,12 @@ pub extern "C" fn icu_study_list(file: &[u8], out: &mut [u8], written: &mut u32)
     ensures { λ r. ⌜ listAllows (now (file .entry)) (now (out .entry)) (now (written .entry)) r (now (out .exit)) (now (written .exit)) ⌝ }
 {
     tell(study_listing::list(file, out, written))
+}
+
+// Rates a diamond interchange: 29 cells of its worksheet, from a record of 167 numbers.
+#[no_mangle]
+pub extern "C" fn icu_diamond(record: &[u32], cells: &mut [u32]) -> IcuAnswer
+    ensures { λ r. ⌜ diamondAllows (now («record» .entry)) (now (cells .entry)) r (now (cells .exit)) ⌝ }
+{
+    tell(diamond::rate(record, cells))
 }

@@ -6,7 +6,7 @@ use contract.Notation.{connectives}
 use denote.Ref.{now}
 use denote.Triple.Clauses.{AtExit}
 use borrow.Fn.World.{World, ArgsD, ResD, Pr}
-use Rattle.icu.specs.Calls.{fillAllows, amendAllows, checkAllows, countAllows, siteAllows, writeAllows, listAllows}
+use Rattle.icu.specs.Calls.{fillAllows, amendAllows, checkAllows, countAllows, siteAllows, writeAllows, listAllows, diamondAllows}
 use Rattle.icu.proofs.icu_fill as fill
 use Rattle.icu.proofs.icu_fill.Statement as fill-stated
 use Rattle.icu.proofs.icu_fill.Reads as fill-reads
@@ -35,6 +35,10 @@ use Rattle.icu.proofs.icu_study_list as list
 use Rattle.icu.proofs.icu_study_list.Statement as list-stated
 use Rattle.icu.proofs.icu_study_list.Reads as list-reads
 use Rattle.icu.proofs.icu_study_list.Met as list-met
+use Rattle.icu.proofs.icu_diamond as diamond
+use Rattle.icu.proofs.icu_diamond.Statement as diamond-stated
+use Rattle.icu.proofs.icu_diamond.Reads as diamond-reads
+use Rattle.icu.proofs.icu_diamond.Met as diamond-met
 
 -- a clause of a promise says this fact and nothing else
 abbrev Exactly : (w : World) → Pr w → Type 0 → Type 2
@@ -97,3 +101,11 @@ pub list-promises :
     → Exactly w (list-reads.ensures κs a tt r s w)
     (listAllows (now (a .0)) (now (a .1 .0)) (now (a .1 .1 .0)) r (now (s .1 .0)) (now (s .1 .1 .0)))
 list-promises κs a r s w = refl
+
+pub diamond-keeps : {M : Type 1} → diamond-stated.statement M
+diamond-keeps = diamond-met.met
+
+pub diamond-promises :
+    (κs : Lfts 2) (a : ArgsD diamond.signature κs) (r : ResD diamond.signature κs) (s : AtExit diamond.ended κs) (w : World)
+    → Exactly w (diamond-reads.ensures κs a tt r s w) (diamondAllows (now (a .0)) (now (a .1 .0)) r (now (s .1 .0)))
+diamond-promises κs a r s w = refl

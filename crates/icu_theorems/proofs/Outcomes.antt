@@ -30,9 +30,13 @@ use Rattle.study_numbers.specs.Numbers.{numberLimit, byteLimit}
 use Rattle.study.specs.Study.{judgement, countOf, siteEntriesAnswer, siteEntries, writeAnswer, fileOf, fileBytes, sitesIn, entriesUpTo}
 use Rattle.study_theorems.proofs.Study as studies
 use Rattle.study_listing.specs.Listing.{listing, listAnswer}
+use Rattle.layout.specs.Diamond.{diamondCount}
+use Rattle.diamond_rules.specs.Record.{judgedRecord, cellsSize, diamondAnswer}
+use Rattle.diamond_rules.specs.Lines.{diamond, rated}
+use Rattle.diamond_rules.proofs.Laws.{sized}
 use Rattle.icu.specs.declared.IcuAnswer.{IcuAnswer}
 use Rattle.icu.specs.Told.{told}
-use Rattle.icu.specs.Calls.{fillAllows, amendAllows, siteAllows, writeAllows, listAllows}
+use Rattle.icu.specs.Calls.{fillAllows, amendAllows, siteAllows, writeAllows, listAllows, diamondAllows}
 use Rattle.icu_theorems.specs.Outcomes.{Yes, No, Run, GivenAgain}
 use Rattle.icu_theorems.proofs.Told.{told-yes, told-no, told-new}
 
@@ -59,6 +63,10 @@ module _ {said : IcuAnswer} {left : List ℕ} where
       let is = allowed .0 .0 in
       (told-no answer (over old 0 (listing f)) old is (allowed .0 .1) refused, told-no answer (length (listing f)) before is (allowed .1) refused)
 
+  pub refused-diamond : (r d : List ℕ) → diamondAllows r d said left → No said → left ≡ d
+  unfolding rated
+  refused-diamond r d allowed = told-no (diamondAnswer r d) (diamond r) d (allowed .0) (allowed .1)
+
 -- a fill
 
 fill-accepted : {said : IcuAnswer} {left : List ℕ} (e d : List ℕ) → fillAllows e d said left → Yes said → fillAnswer e d ≡ Accepted
@@ -80,6 +88,27 @@ accepted-fill e d allowed ok sized = rw (allowed .0, answer-accepted e d ok size
 pub filled-sheet : {said : IcuAnswer} {left : List ℕ} (e d : List ℕ) → fillAllows e d said left → Yes said → left ≡ sheet e
 unfolding filled
 filled-sheet e d allowed is = allowed .1 ∙ sym (renewed (sheet e) d (fill-accepted e d allowed is))
+
+-- a diamond
+
+diamond-accepted : {said : IcuAnswer} {left : List ℕ} (r d : List ℕ) → diamondAllows r d said left → Yes said → diamondAnswer r d ≡ Accepted
+diamond-accepted r d allowed = told-yes (diamondAnswer r d) (allowed .0)
+
+pub acceptable-record-only : {said : IcuAnswer} {left : List ℕ} (r d : List ℕ) → diamondAllows r d said left → Yes said
+    → (judgedRecord r ≡ Accepted) × (length d ≡ diamondCount)
+unfolding diamondAnswer cellsSize
+acceptable-record-only r d allowed is =
+    let both = both-accepted (cellsSize d) (judgedRecord r) (diamond-accepted r d allowed is) in
+    (both .1, sized (length d) diamondCount (both .0))
+
+pub accepted-diamond : {said : IcuAnswer} {left : List ℕ} (r d : List ℕ) → diamondAllows r d said left → judgedRecord r ≡ Accepted
+    → length d ≡ diamondCount → Yes said
+unfolding diamondAnswer cellsSize
+accepted-diamond r d allowed ok size = rw (allowed .0, eq-eqb (length d) diamondCount size, ok)
+
+pub rated-cells : {said : IcuAnswer} {left : List ℕ} (r d : List ℕ) → diamondAllows r d said left → Yes said → left ≡ diamond r
+unfolding rated
+rated-cells r d allowed is = allowed .1 ∙ sym (renewed (diamond r) d (diamond-accepted r d allowed is))
 
 -- an amendment
 

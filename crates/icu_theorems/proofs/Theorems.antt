@@ -4,7 +4,7 @@
 -- left` says that `icu_fill`, given the entries e and a sheet that holds d, may answer `one` and leave `left`. Calls.antt, beside
 -- this file, shows it of the calls themselves: each keeps its promise, and its promise is that definition, word for word.
 use mathlib.Core.Path.{_≡_, refl, sym, _∙_, ap}
-use mathlib.Core.Bool.{false, cond}
+use mathlib.Core.Bool.{true, false, cond}
 use mathlib.Core.List.{List, [], _∷_, map, replicate}
 use mathlib.Core.List.{length as size}
 use Prim.Native.Nat.{ℕ, _<_, _≤_, _*_}
@@ -43,8 +43,20 @@ use Rattle.text_writer.specs.Writer.{junctionText}
 use Rattle.text_theorems.proofs.RoundTrip as texts
 use Rattle.page_form.specs.Form.{shownCount}
 use Rattle.page_form.proofs.Places.{OnPage, on-page}
+use Rattle.layout.specs.Diamond.{recordCount, planPick, bestCell, diamondCount}
+use Rattle.entries.specs.Layout.{cycle}
+use Rattle.diamond_rules.specs.declared.Side.{Side}
+use Rattle.diamond_rules.specs.Record.{west, east, cyclesAnswer, ownAnswer, judgedRecord}
+use Rattle.diamond_rules.specs.Lines.{below1, diamond}
+use Rattle.diamond_rules.specs.Example.{example3, cells3}
+use Rattle.diamond_rules.proofs.Laws as records
+use Rattle.diamond_rules.proofs.Percentile.{Percentile, percentile}
+use Rattle.diamond_rules.proofs.Example.{example3-accepted, example3-worked}
+use Rattle.diamond_theorems.specs.Best.{Picks, allowed, takes, NothingLost}
+use Rattle.diamond_theorems.proofs.Best as best
+use Rattle.diamond_theorems.proofs.Fits as fits
 use Rattle.icu.specs.declared.IcuAnswer.{IcuAnswer}
-use Rattle.icu.specs.Calls.{fillAllows, amendAllows, siteAllows, writeAllows, listAllows, checkAllows, countAllows, Allowed}
+use Rattle.icu.specs.Calls.{fillAllows, amendAllows, siteAllows, writeAllows, listAllows, checkAllows, countAllows, diamondAllows, Allowed}
 use Rattle.icu_theorems.specs.Outcomes.{Yes, No, toCompare, Run, GivenAgain}
 use Rattle.icu_theorems.proofs.Junctions.{acceptable}
 use Rattle.icu_theorems.proofs.Outcomes as outcomes
@@ -68,6 +80,9 @@ module _ {one other : IcuAnswer} {left right : List ℕ} where
   pub write-agrees : (e old : List ℕ) → writeAllows e old one left → writeAllows e old other right → (one ≡ other) × (left ≡ right)
   write-agrees e old = agree
 
+  pub diamond-agrees : (r d : List ℕ) → diamondAllows r d one left → diamondAllows r d other right → (one ≡ other) × (left ≡ right)
+  diamond-agrees r d = agree
+
   pub list-agrees :
       (f old : List ℕ) (before : ℕ) {n m : ℕ} → listAllows f old before one left n → listAllows f old before other right m
       → ((one ≡ other) × (left ≡ right)) × (n ≡ m)
@@ -81,7 +96,7 @@ count-agrees f p q = p ∙ sym q
 
 -- DEMAND 1. Every call finishes and asks nothing of its caller: the check proves that of every function, and no call of the
 -- crate icu has a `requires`. A refusal comes exactly when the table says: the answers are the definitions' `fillAnswer`,
--- `amendAnswer`, `judgement`, `siteEntriesAnswer`, `writeAnswer` and `listAnswer`. And a refusal alters nothing:
+-- `amendAnswer`, `judgement`, `siteEntriesAnswer`, `writeAnswer`, `listAnswer` and `diamondAnswer`. And a refusal alters nothing:
 module _ {one : IcuAnswer} {left : List ℕ} where
   pub refused-fill : (e d : List ℕ) → fillAllows e d one left → No one → left ≡ d
   refused-fill = outcomes.refused-fill
@@ -97,6 +112,9 @@ module _ {one : IcuAnswer} {left : List ℕ} where
 
   pub refused-listing : (f old : List ℕ) (before : ℕ) {n : ℕ} → listAllows f old before one left n → No one → (left ≡ old) × (n ≡ before)
   refused-listing = outcomes.refused-listing
+
+  pub refused-diamond : (r d : List ℕ) → diamondAllows r d one left → No one → left ≡ d
+  refused-diamond = outcomes.refused-diamond
 
 -- DEMAND 2. Acceptable entries and a sheet's 209 cells are accepted, and nothing else is ..
 pub accepted-fill : {one : IcuAnswer} {left : List ℕ} (e d : List ℕ) → fillAllows e d one left → judged e ≡ Accepted → length d ≡ sheetCount → Yes one
@@ -202,6 +220,56 @@ changes-on-any-sheet = all-cells
 pub refused-changes :
     {why : Refusal} {place : ℕ} (d : List ℕ) (changes : List Change) → togetherAnswer d changes ≡ Refused why place → amendedTogether d changes ≡ d
 refused-changes d changes = all-stays d changes
+
+-- A DIAMOND INTERCHANGE. An acceptable record and 29 cells are accepted, and nothing else is; the cells are then the worksheet's ..
+pub accepted-diamond :
+    {one : IcuAnswer} {left : List ℕ} (r d : List ℕ) → diamondAllows r d one left → judgedRecord r ≡ Accepted → length d ≡ diamondCount → Yes one
+accepted-diamond = outcomes.accepted-diamond
+
+pub acceptable-record-only :
+    {one : IcuAnswer} {left : List ℕ} (r d : List ℕ) → diamondAllows r d one left → Yes one → (judgedRecord r ≡ Accepted) × (length d ≡ diamondCount)
+acceptable-record-only = outcomes.acceptable-record-only
+
+pub rated-cells : {one : IcuAnswer} {left : List ℕ} (r d : List ℕ) → diamondAllows r d one left → Yes one → left ≡ diamond r
+rated-cells = outcomes.rated-cells
+
+-- .. both its junctions are acceptable as any junction is, and have one cycle ..
+pub acceptable-junctions :
+    (r : List ℕ) → judgedRecord r ≡ Accepted → ((judged (west r) ≡ Accepted) × (judged (east r) ≡ Accepted)) × (cycle (west r) ≡ cycle (east r))
+acceptable-junctions r ok = ((records.west-accepted r ok, records.east-accepted r ok), records.same-cycle r ok)
+
+-- .. two acceptable junctions are refused together only for their cycles, and then for the record's own numbers ..
+pub judged-together :
+    (r : List ℕ) → length r ≡ recordCount → judged (west r) ≡ Accepted → judged (east r) ≡ Accepted → judgedRecord r ≡ (cyclesAnswer r then ownAnswer r)
+judged-together = records.judged-together
+
+-- .. the picked plan is allowed and none that is allowed takes less, or as much and comes earlier: leading alternate, lagging, lead-lag ..
+pub best-picked : (r : List ℕ) → judgedRecord r ≡ Accepted → Picks (allowed r) (takes r) (getD (diamond r) planPick 0) (getD (diamond r) bestCell 0)
+best-picked = best.best-picked
+
+-- .. leading alternate is always allowed, and lead-lag wherever lagging is ..
+pub leading-allowed : (r : List ℕ) → allowed r 0 ≡ true
+leading-allowed r = refl
+
+pub lagging-needs-more : (r : List ℕ) → allowed r 1 ≡ true → allowed r 2 ≡ true
+lagging-needs-more = best.lagging-needs-more
+
+-- .. no subtraction of Table 6-4 goes below 0: what is taken off, put back, is what was added ..
+pub nothing-lost : (tT : ℕ) (w e : Side) → NothingLost tT w e
+nothing-lost = best.nothing-lost
+
+-- .. every cell fits 32 bits ..
+pub diamond-fits : (r : List ℕ) → judgedRecord r ≡ Accepted → (k : ℕ) → getD (diamond r) k 0 ≤ BLANK
+diamond-fits = fits.diamond-fits
+
+-- .. the ratio test holds exactly where the book's 90th percentile is below the storage: where some fraction a/b whose square is at
+-- least x = N/3600 has x + 1.28·a/b < L ..
+pub ratio-below-1 : (N L : ℕ) → (below1 N L ≡ true → Percentile N L) × (Percentile N L → below1 N L ≡ true)
+ratio-below-1 = percentile
+
+-- .. and the book's example 3 is acceptable and comes out of the definitions, cell by cell.
+pub example-3 : (judgedRecord example3 ≡ Accepted) × (diamond example3 ≡ cells3)
+example-3 = (example3-accepted, example3-worked)
 
 -- THE ENGINEERS' TEXTS. Any 81 numbers of 32 bits, written as a junction's text and read, are the same numbers ..
 pub written-as-text : (e : List ℕ) → length e ≡ entryCount → AllBelow numberLimit e → parsed (junctionText e) .entries ≡ e

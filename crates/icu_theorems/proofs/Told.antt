@@ -4,7 +4,7 @@ use Prim.Native.Nat.{ℕ, _<_}
 use native.Mathlib.Omega.{arith}
 use Rattle.answers.specs.Answers.{left-by, refusalNumber}
 use Rattle.answers.specs.declared.Refusal.{Refusal}
-use Rattle.answers.specs.declared.Refusal.the-variants.{Size, Entry, Range, Shared, NoLane, File}
+use Rattle.answers.specs.declared.Refusal.the-variants.{Size, Entry, Range, Shared, NoLane, File, Store, Travel}
 use Rattle.answers.specs.declared.Answer.{Answer}
 use Rattle.answers.specs.declared.Answer.the-variants.{Accepted, Refused}
 use Rattle.answers.proofs.Laws.{renewed}
@@ -20,6 +20,8 @@ some-number Range = omega arith
 some-number Shared = omega arith
 some-number NoLane = omega arith
 some-number File = omega arith
+some-number Store = omega arith
+some-number Travel = omega arith
 
 pub told-yes : {said : IcuAnswer} (answer : Answer) → said ≡ told answer → Yes said → answer ≡ Accepted
 told-yes Accepted is granted = refl

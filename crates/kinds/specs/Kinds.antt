@@ -10,13 +10,14 @@ use Rattle.kinds.specs.declared.Group.{Group}
 use Rattle.kinds.specs.declared.Group.the-variants.{Left, Through, Right}
 use Rattle.kinds.specs.declared.Kind.{Kind}
 use Rattle.kinds.specs.declared.Kind.the-variants.{Lanes, Volume, IdealFlow, LostTime, MinimumGreen}
-use Rattle.kinds.specs.declared.Kind.the-variants.{SharedLane, Pedestrians, PushButton, PedestrianTime, FreeRight, Cycle}
+use Rattle.kinds.specs.declared.Kind.the-variants.{SharedLane, Pedestrians, PushButton, PedestrianTime, FreeRight, Cycle, Storage, TravelTime}
 
 infix 40 _to_usually_
 abbrev pub _to_usually_ : ℕ → ℕ → ℕ → Limits
 least to most usually usual = record { least = least; most = most; usual = usual }
 
--- the limits of each kind, in the entries' order; "default flows (1,900)", and the other usual values as the book advises
+-- the limits of each kind, in the entries' order, then those of a diamond's own numbers, which no sheet has ("storages 1–999",
+-- "travel time 0–60,000 ms"); "default flows (1,900)", and the other usual values as the book advises
 abbrev pub limitsOf : Kind → Limits
 limitsOf Lanes = 0 to 6 usually 0
 limitsOf Volume = 0 to 9999 usually 0
@@ -29,6 +30,8 @@ limitsOf PushButton = 0 to 1 usually 0
 limitsOf PedestrianTime = 0 to 60000 usually 0
 limitsOf FreeRight = 0 to 1 usually 0
 limitsOf Cycle = 30 to 240 usually 120
+limitsOf Storage = 1 to 999 usually 1
+limitsOf TravelTime = 0 to 60000 usually 0
 
 -- an entry of this kind is "in range": all that judging, the constructors and their callers ask of a number
 abbrev pub inRange : Kind → ℕ → Bool

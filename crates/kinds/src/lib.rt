@@ -282,6 +282,54 @@ impl Cycle {
     }
 }
 
+// Vehicles that find room between the junctions of a diamond. None is usual: the least stands for it.
+pub struct Storage(pub u32, ());
+
+impl Storage {
+    pub const LIMITS: Limits = Limits {
+        least: 1,
+        most: 999,
+        usual: 1,
+    };
+
+    pub fn new(value: u32) -> Storage
+        requires { ⌜ inRange Kind.Storage value ≡ true ⌝ }
+        ensures { λ r. ⌜ r .0 ≡ value ⌝ }
+    {
+        Storage(value, ())
+    }
+
+    pub fn usual() -> Storage
+        ensures { λ r. ⌜ r .0 ≡ limitsOf Kind.Storage .usual ⌝ }
+    {
+        Storage::new(Storage::LIMITS.usual)
+    }
+}
+
+// Time that a vehicle takes from one junction of a diamond to the other.
+pub struct TravelTime(pub Ms, ());
+
+impl TravelTime {
+    pub const LIMITS: Limits = Limits {
+        least: 0,
+        most: 60_000,
+        usual: 0,
+    };
+
+    pub fn new(value: u32) -> TravelTime
+        requires { ⌜ inRange Kind.TravelTime value ≡ true ⌝ }
+        ensures { λ r. ⌜ r .0 .0 ≡ value ⌝ }
+    {
+        TravelTime(Ms(value), ())
+    }
+
+    pub fn usual() -> TravelTime
+        ensures { λ r. ⌜ r .0 .0 ≡ limitsOf Kind.TravelTime .usual ⌝ }
+    {
+        TravelTime::new(TravelTime::LIMITS.usual)
+    }
+}
+
 pub enum Kind {
     Lanes,
     Volume,
@@ -294,6 +342,8 @@ pub enum Kind {
     PedestrianTime,
     FreeRight,
     Cycle,
+    Storage,
+    TravelTime,
 }
 
 impl Kind {
@@ -312,6 +362,8 @@ impl Kind {
             Kind::PedestrianTime => PedestrianTime::LIMITS,
             Kind::FreeRight => FreeRight::LIMITS,
             Kind::Cycle => Cycle::LIMITS,
+            Kind::Storage => Storage::LIMITS,
+            Kind::TravelTime => TravelTime::LIMITS,
         }
     }
 
@@ -331,6 +383,8 @@ impl Kind {
             Kind::PedestrianTime => PedestrianTime::usual().0.0,
             Kind::FreeRight => FreeRight::usual().0,
             Kind::Cycle => Cycle::usual().0,
+            Kind::Storage => Storage::usual().0,
+            Kind::TravelTime => TravelTime::usual().0.0,
         }
     }
 

@@ -94,3 +94,60 @@ pub const PAGE_CELLS: usize = CELLS + BESIDE_NUMBERS * APPROACHES;
 
 // What a cell holds where an option is not allowed; the largest number of 32 bits.
 pub const BLANK: u32 = 4_294_967_295;
+
+// A diamond's record: the west junction's entries, the east's, four storages and the travel time.
+pub const EAST_FROM: usize = ENTRIES;
+
+pub const EAST_CYCLE: usize = EAST_FROM + CYCLE_ENTRY;
+
+pub const STORAGES_FROM: usize = EAST_FROM + ENTRIES;
+
+// WB left and EB left, which leave the arterial; the road eastbound and westbound, for the lefts off the ramps.
+pub const STORAGES: usize = 4;
+
+pub const TRAVEL_PLACE: usize = STORAGES_FROM + STORAGES;
+
+pub const RECORD: usize = TRAVEL_PLACE + 1;
+
+// The west junction and the east.
+pub const SIDES: usize = 2;
+
+// The interchange times of a side.
+pub const SIDE_TIMES: usize = 7;
+
+// Past them, of each side its isolated time, its alternate, the larger and its overlap.
+pub const ISOLATED_CELL: usize = SIDE_TIMES * SIDES;
+
+pub const ALTERNATE_CELL: usize = ISOLATED_CELL + SIDES;
+
+pub const COMBINED_FROM: usize = ALTERNATE_CELL + SIDES;
+
+pub const OVERLAP_CELL: usize = COMBINED_FROM + SIDES;
+
+// Leading alternate, lagging, lead-lag, and which of them is picked.
+pub const PLAN_FROM: usize = OVERLAP_CELL + SIDES;
+
+pub const PLANS: usize = 3;
+
+pub const PLAN_PICK: usize = PLAN_FROM + PLANS;
+
+pub const BEST_CELL: usize = PLAN_PICK + 1;
+
+pub const DIAMOND_ICU: usize = BEST_CELL + 1;
+
+pub const DIAMOND_LETTER: usize = DIAMOND_ICU + 1;
+
+pub const DIAMOND_CELLS: usize = DIAMOND_LETTER + 1;
+
+// What a diamond's page shows, in one list: both sheets, the record's own numbers, the cells, and three numbers of each storage.
+pub const PAGE_OWN: usize = CELLS * SIDES;
+
+pub const PAGE_DIAMOND: usize = PAGE_OWN + STORAGES + 1;
+
+pub const PAGE_VOLUMES: usize = PAGE_DIAMOND + DIAMOND_CELLS;
+
+pub const PAGE_ROOMS: usize = PAGE_VOLUMES + STORAGES;
+
+pub const PAGE_FITS: usize = PAGE_ROOMS + STORAGES;
+
+pub const DIAMOND_PAGE: usize = PAGE_FITS + STORAGES;

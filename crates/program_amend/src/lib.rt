@@ -17,7 +17,7 @@ ghost use Rattle.program_outcome.specs.Outcome.{remarked, Left};
 ghost use Rattle.program_site.specs.Site.{soughtText};
 ghost use Rattle.program_amend.specs.Run.{pastSite, changesIn, isKept, amendTakes, newPlace, amendUse, sheetBefore};
 ghost use Rattle.program_amend.specs.Run.{amendFile, amendWork, amendRun};
-ghost use Rattle.program_amend.specs.Working.{useMost, onlyPrinted};
+ghost use Rattle.program_amend.specs.Working.{useMost};
 use answers::Answer;
 use layout::CELLS;
 use layout::ENTRIES;
@@ -261,17 +261,6 @@ fn put_use(out: &mut [u8]) -> usize
     )
 }
 
-// The lengths where something is printed and nothing else is given.
-fn only_printed(prints: usize) -> Lengths
-    ensures { λ r. ⌜ r ≡ onlyPrinted prints ⌝ }
-{
-    Lengths {
-        prints,
-        writes: 0,
-        says: 0,
-    }
-}
-
 // What is given where neither its use nor its version is asked for.
 fn work(
     call: Call,
@@ -313,8 +302,8 @@ pub fn run(
 {
     let wish = program_wish::wish_of(call.arguments, program_words::word(words, NAME));
     match wish {
-        Wish::Help => only_printed(put_use(printed)),
-        Wish::Version => only_printed(program_wish::put_version(printed)),
+        Wish::Help => program_outcome::only_printed(put_use(printed)),
+        Wish::Version => program_outcome::only_printed(program_wish::put_version(printed)),
         Wish::Work => work(call, words, area, printed, written, said),
     }
 }

@@ -1,4 +1,5 @@
--- The line over a printed sheet, which tells whose it is: `elm.txt: Elm Street and 3rd Avenue`, `two.icus, site 2 of 2`.
+-- The line over a printed sheet, which tells whose it is: `elm.txt: Elm Street and 3rd Avenue`, `two.icus, site 2 of 2`;
+-- over a diamond's, a line for each of its junctions.
 use Prim.Native.Nat.{ℕ, _+_}
 use mathlib.Core.Bool.{cond}
 use mathlib.Core.List.{List, [], _∷_, _++_}
@@ -47,3 +48,12 @@ feed spot = cond (spot .follows) (formFeed ∷ []) []
 -- "two.icus, site 2 of 2"
 unfoldable pub siteHeading : List ℕ → Spot → List ℕ
 siteHeading name spot = feed spot ++ siteTitle name (spot .site) ++ numbered (ascii " of ") (spot .sites) ++ lineEnds
+
+-- "west: sb-ramp.txt: Main Street and I-99 SB"
+unfoldable pub sideLine : List ℕ → List ℕ → List ℕ → List ℕ
+sideLine side name title = side ++ shownName name ++ titled title
+
+-- the west's line and the east's
+unfoldable pub diamondHeading : List ℕ → List ℕ → List ℕ → List ℕ → List ℕ
+diamondHeading west westTitle east eastTitle =
+    sideLine (ascii "west: ") west westTitle ++ sideLine (ascii "\neast: ") east eastTitle ++ lineEnds

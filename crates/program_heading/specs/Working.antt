@@ -15,3 +15,15 @@ siteTitleMost = wordMost + 7 + digitMost
 -- a name, ": ", a title and the lines' ends: more than what a site's heading takes
 abbrev pub headingMost : ℕ
 headingMost = wordMost + titledMost + 2
+
+-- "east: ", on a new line
+abbrev pub sideMost : ℕ
+sideMost = 7
+
+-- that, a name and a title
+abbrev pub sideLineMost : ℕ
+sideLineMost = sideMost + wordMost + titledMost
+
+-- two such lines and the lines' ends
+abbrev pub diamondMost : ℕ
+diamondMost = sideLineMost + sideLineMost + 2

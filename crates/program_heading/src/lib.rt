@@ -6,11 +6,18 @@ ghost use Rattle.text.specs.Text.{Placed};
 ghost use Rattle.program_outcome.specs.Outcome.{wordMost};
 ghost use Rattle.text_numbers.specs.Numbers.{tooLarge};
 ghost use Rattle.program_heading.specs.Headings.{shownByte, shown, shownName, titled, textHeading, siteTitle, feed, siteHeading};
-ghost use Rattle.program_heading.specs.Working.{titledMost, siteTitleMost, headingMost};
+ghost use Rattle.program_heading.specs.Headings.{sideLine, diamondHeading};
+ghost use Rattle.program_heading.specs.Working.{titledMost, siteTitleMost, headingMost, sideMost, sideLineMost, diamondMost};
 use program_outcome::WORD_BYTES;
 
 // Room for a heading: a name, ": ", a title and the lines' ends.
 pub const HEADING_BYTES: usize = WORD_BYTES + text_titles::TITLE_MOST + 4;
+
+// "east: ", on a new line.
+const SIDE_BYTES: usize = 7;
+
+// Room for a diamond's: for each junction that, a name, ": " and a title; and the lines' ends.
+pub const DIAMOND_BYTES: usize = 2 * (SIDE_BYTES + WORD_BYTES + 2 + text_titles::TITLE_MOST) + 2;
 
 // Which of a study's sites a page is of, from 0; how many there are; and whether the page follows another.
 pub struct Spot {
@@ -99,6 +106,34 @@ fn put_site_heading(out: &mut [u8], name: &[u8], spot: Spot) -> usize
     text::put_bytes(out, counted, b"\n\n")
 }
 
+// Puts the line of a diamond's junction: which it is, the text's name and its title.
+fn put_side(out: &mut [u8], at: usize, side: &[u8], name: &[u8], title: &[u8]) -> usize
+    requires { ⌜ (at + sideLineMost ≤ length (now out)) × (length (now side) ≤ sideMost) ⌝ }
+    ensures { λ r. ⌜ Placed (now (out .entry)) at (sideLine (now (side .entry)) (now (name .entry)) (now (title .entry))) (now (out .exit)) r
+        × (r ≤ at + sideLineMost) ⌝ }
+{
+    let told = text::put_bytes(out, at, side);
+    let named = put_name(out, told, name);
+    put_titled(out, named, title)
+}
+
+fn put_diamond(
+    out: &mut [u8],
+    west: &[u8],
+    westtitle: &[u8],
+    east: &[u8],
+    easttitle: &[u8],
+) -> usize
+    requires { ⌜ diamondMost ≤ length (now out) ⌝ }
+    ensures { λ r. ⌜ Placed (now (out .entry)) 0
+        (diamondHeading (now (west .entry)) (now (westtitle .entry)) (now (east .entry)) (now (easttitle .entry))) (now (out .exit)) r
+        × (r ≤ diamondMost) ⌝ }
+{
+    let first = put_side(out, 0, b"west: ", west, westtitle);
+    let both = put_side(out, first, b"\neast: ", east, easttitle);
+    text::put_bytes(out, both, b"\n\n")
+}
+
 // The heading of the sheet of a text: its name, and its title if it has one.
 pub fn head_text(name: &[u8], title: &[u8], heading: &mut [u8; HEADING_BYTES]) -> usize
     ensures { λ r. ⌜ Placed (now (heading .entry)) 0 (textHeading (now (name .entry)) (now (title .entry))) (now (heading .exit)) r × (r ≤ headingMost) ⌝ }
@@ -120,4 +155,19 @@ pub fn head_site(name: &[u8], spot: Spot, heading: &mut [u8; HEADING_BYTES]) -> 
     ensures { λ r. ⌜ Placed (now (heading .entry)) 0 (siteHeading (now (name .entry)) spot) (now (heading .exit)) r × (r ≤ headingMost) ⌝ }
 {
     put_site_heading(heading, name, spot)
+}
+
+// The heading of a diamond's sheet: of each junction the name of its text, and the title if it has one.
+pub fn head_diamond(
+    west: &[u8],
+    westtitle: &[u8],
+    east: &[u8],
+    easttitle: &[u8],
+    heading: &mut [u8; DIAMOND_BYTES],
+) -> usize
+    ensures { λ r. ⌜ Placed (now (heading .entry)) 0
+        (diamondHeading (now (west .entry)) (now (westtitle .entry)) (now (east .entry)) (now (easttitle .entry))) (now (heading .exit)) r
+        × (r ≤ diamondMost) ⌝ }
+{
+    put_diamond(heading, west, westtitle, east, easttitle)
 }

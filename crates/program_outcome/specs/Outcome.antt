@@ -9,7 +9,7 @@ use Rattle.text.specs.Text.{ascii, Placed}
 use Rattle.program_outcome.specs.declared.Input.{Input}
 use Rattle.program_outcome.specs.declared.Input.the-variants.{Read, Failed}
 use Rattle.program_outcome.specs.declared.Remark.{Remark}
-use Rattle.program_outcome.specs.declared.Remark.the-variants.{Unread, Unwritten, NoName, NoEntry, IsStudy}
+use Rattle.program_outcome.specs.declared.Remark.the-variants.{Unread, Unwritten, NoName, NoEntry, IsStudy, WantsText}
 use Rattle.program_outcome.specs.declared.Remark.the-variants.{InTheWay, Stays, IsLink, NoInput, NoOutput}
 use Rattle.program_outcome.specs.declared.Lengths.{Lengths}
 
@@ -50,6 +50,7 @@ remarkText Unwritten = ascii "cannot be written\n"
 remarkText NoName = ascii "no movement, no approach and not the junction has this name\n"
 remarkText NoEntry = ascii "no entry has this name there\n"
 remarkText IsStudy = ascii "this is a study file: add a site, counted from 1, or all\n"
+remarkText WantsText = ascii "this is a study file: name a junction's text, as icustudy show prints one\n"
 remarkText InTheWay = ascii "there is such a file and it is no study file, so it stays as it is: name another\n"
 remarkText Stays = ascii "stays as it was, since not all that was asked for was done: name a new file\n"
 remarkText IsLink = ascii "this is a symbolic link, which stays as it is: name its file\n"

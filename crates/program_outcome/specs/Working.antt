@@ -1,4 +1,4 @@
--- The lengths of what is only said, and how long a sentence and what stands before it are at most: no public promise says it.
+-- The lengths of what is only said or only printed, and how long a sentence and what stands before it are at most: no public promise says it.
 use Prim.Native.Nat.{ℕ, _+_}
 use Rattle.program_outcome.specs.declared.Lengths.{Lengths}
 use Rattle.program_outcome.specs.Outcome.{wordMost}
@@ -12,3 +12,6 @@ remarkMost = 128
 
 abbrev pub onlySaid : ℕ → Lengths
 onlySaid size = record { prints = 0; writes = 0; says = size }
+
+abbrev pub onlyPrinted : ℕ → Lengths
+onlyPrinted size = record { prints = size; writes = 0; says = 0 }

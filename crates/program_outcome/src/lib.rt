@@ -4,7 +4,7 @@ ghost use Prim.Native.Nat.{_+_, _≤_};
 ghost use lib.ListN.{length, take};
 ghost use Rattle.text.specs.Text.{Placed};
 ghost use Rattle.program_outcome.specs.Outcome.{isEither, opening, named, remarkText, remarked};
-ghost use Rattle.program_outcome.specs.Working.{onlySaid, openingMost, remarkMost};
+ghost use Rattle.program_outcome.specs.Working.{onlySaid, onlyPrinted, openingMost, remarkMost};
 
 // What reading a file into an area came to: how many bytes were read.
 pub enum Input {
@@ -19,6 +19,7 @@ pub enum Remark {
     NoName,
     NoEntry,
     IsStudy,
+    WantsText,
     InTheWay,
     Stays,
     IsLink,
@@ -69,6 +70,17 @@ pub fn only_said(says: usize) -> Lengths
     }
 }
 
+// The same where something is printed.
+pub fn only_printed(prints: usize) -> Lengths
+    ensures { λ r. ⌜ r ≡ onlyPrinted prints ⌝ }
+{
+    Lengths {
+        prints,
+        writes: 0,
+        says: 0,
+    }
+}
+
 // Whether a number is one of two.
 pub fn is_either(number: usize, one: usize, other: usize) -> bool
     ensures { λ r. ⌜ r ≡ isEither number one other ⌝ }
@@ -114,6 +126,11 @@ fn put_remark(out: &mut [u8], at: usize, remark: Remark) -> usize
             out,
             at,
             b"this is a study file: add a site, counted from 1, or all\n",
+        ),
+        Remark::WantsText => text::put_bytes(
+            out,
+            at,
+            b"this is a study file: name a junction's text, as icustudy show prints one\n",
         ),
         Remark::InTheWay => text::put_bytes(
             out,

@@ -13,7 +13,6 @@ ghost use Rattle.program_outcome.specs.Outcome.{Left};
 ghost use Rattle.program_heading.specs.Headings.{siteTitle};
 ghost use Rattle.program_heading.specs.Working.{headingMost};
 ghost use Rattle.program_page.specs.Pages.{pageText, bodyOf, refusedOf, textPage, sitePage, siteAlone};
-ghost use Rattle.program_page.specs.Working.{onlyPrinted};
 use answers::Answer;
 use layout::ENTRIES;
 use layout::PAGE_CELLS;
@@ -26,17 +25,6 @@ use text_refusals::SAYING_BYTES;
 
 // Room for what is printed: a heading and a page.
 pub const PRINTED_BYTES: usize = HEADING_BYTES + SHEET_BYTES;
-
-// The lengths where something is printed and nothing else is given.
-pub fn only_printed(prints: usize) -> Lengths
-    ensures { λ r. ⌜ r ≡ onlyPrinted prints ⌝ }
-{
-    Lengths {
-        prints,
-        writes: 0,
-        says: 0,
-    }
-}
 
 // Makes the page of entries; or tells why they are refused.
 fn fill_page(entries: &[u32; ENTRIES], page: &mut [u8; SHEET_BYTES]) -> Answer

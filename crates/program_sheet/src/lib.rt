@@ -198,8 +198,8 @@ pub fn run(
         (now (printed .entry)) (now (said .entry)) (now (printed .exit)) (now (said .exit)) r ⌝ }
 {
     match program_wish::wish_of(call.arguments, program_words::word(words, NAME)) {
-        Wish::Help => program_page::only_printed(put_use(printed)),
-        Wish::Version => program_page::only_printed(program_wish::put_version(printed)),
+        Wish::Help => program_outcome::only_printed(put_use(printed)),
+        Wish::Version => program_outcome::only_printed(program_wish::put_version(printed)),
         Wish::Work => work(call, words, area, printed, said),
     }
 }
@@ -233,7 +233,7 @@ fn page_in(
 {
     let sites = study::count(file);
     if sites <= site {
-        return program_page::only_printed(0);
+        return program_outcome::only_printed(0);
     }
     let mut entries = [0u32; ENTRIES];
     study::site_entries(file, site, &mut entries);
@@ -259,7 +259,7 @@ pub fn page(
         (now (printed .entry)) (now (said .entry)) (now (printed .exit)) (now (said .exit)) r ⌝ }
 {
     let Input::Read(size) = input else {
-        return program_page::only_printed(0);
+        return program_outcome::only_printed(0);
     };
     let name = program_words::word(words, NAME);
     page_in(

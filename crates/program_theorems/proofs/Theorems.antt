@@ -33,6 +33,7 @@ use Rattle.program_make.specs.Steps.{Typed, made, steps, finished}
 use Rattle.program_make.proofs.Made.{made-of-texts as texts-made}
 use Rattle.program_list.specs.Run.{listRun}
 use Rattle.program_target.specs.Target.{targetText}
+use Rattle.program_diamond.specs.Run.{diamondRun}
 use Rattle.program_sheet.proofs.run as sheet
 use Rattle.program_sheet.proofs.run.Statement as sheet-stated
 use Rattle.program_sheet.proofs.run.Reads as sheet-reads
@@ -69,6 +70,10 @@ use Rattle.program_list.proofs.run as list
 use Rattle.program_list.proofs.run.Statement as list-stated
 use Rattle.program_list.proofs.run.Reads as list-reads
 use Rattle.program_list.proofs.run.Met as list-met
+use Rattle.program_diamond.proofs.run as diamond
+use Rattle.program_diamond.proofs.run.Statement as diamond-stated
+use Rattle.program_diamond.proofs.run.Reads as diamond-reads
+use Rattle.program_diamond.proofs.run.Met as diamond-met
 use Rattle.program_target.proofs.judge as target
 use Rattle.program_target.proofs.judge.Statement as target-stated
 use Rattle.program_target.proofs.judge.Reads as target-reads
@@ -216,3 +221,13 @@ pub target-promises :
     → Exactly w (target-reads.ensures κs a tt r s w)
     (Placed (now (a .1 .1 .1 .1 .0)) 0 (targetText (a .0) (now (a .1 .0)) (now (a .1 .1 .0)) (a .1 .1 .1 .0)) (now (s .1 .1 .1 .1 .0)) r)
 target-promises κs a r s w = refl
+
+pub diamond-keeps : {M : Type 1} → diamond-stated.statement M
+diamond-keeps = diamond-met.met
+
+pub diamond-promises :
+    (κs : Lfts 5) (a : ArgsD diamond.signature κs) (r : ResD diamond.signature κs) (s : AtExit diamond.ended κs) (w : World)
+    → Exactly w (diamond-reads.ensures κs a tt r s w)
+    (Left (diamondRun (a .0) (now (a .1 .0)) (now (a .1 .1 .0)) (now (a .1 .1 .1 .0))) (now (a .1 .1 .1 .1 .0)) (now (a .1 .1 .1 .1 .1 .0))
+    (now (s .1 .1 .1 .1 .0)) (now (s .1 .1 .1 .1 .1 .0)) r)
+diamond-promises κs a r s w = refl

@@ -79,7 +79,7 @@ unfolding rightTotal
 right-most free x cross left h k l =
     chosen-most (eqb (line 3 x) 0) (λ nothing. lit≤ tt) (λ some. chosen-most free (λ alone. omega arith) (λ all. omega arith))
 
-icu-most : (required CL : ℕ) → required ≤ mostRequired → FairCycle CL → icuOf required CL ≤ mostIcu
+pub icu-most : (required CL : ℕ) → required ≤ mostRequired → FairCycle CL → icuOf required CL ≤ mostIcu
 unfolding icuOf
 icu-most required CL h cycle = up-most mostIcu required CL (omega (arith, cycle .least))
 

@@ -10,7 +10,6 @@ ghost use Rattle.layout.specs.Sheet.{lineCount, sheetCount, besideNumbers, page
 ghost use Rattle.entries.specs.Judging.{judged};
 ghost use Rattle.procedure.specs.Ranges.{Fair, FairCycle};
 ghost use Rattle.procedure.specs.Approach.{readApproach};
-ghost use Rattle.procedure.specs.Pairs.{by-pick as byPick};
 ghost use Rattle.procedure.specs.Sheet.{sheet as sheetOf};
 ghost use Rattle.entries.specs.Layout.{cycle as cycleOf};
 ghost use Rattle.sheet_beside.specs.Beside.{ownLane, lineIn, pickIn, throughIn, leftIn, added};
@@ -63,26 +62,13 @@ fn pick_in(cells: &[u32], a: usize) -> u32
     cells[layout::PAIRS_FROM + layout::PAIR_CELLS * (a / layout::IN_PAIR) + layout::PICK]
 }
 
-// By a pick: protected, permitted, split.
-fn by_pick(pick: u32, protected: u32, permitted: u32, split: u32) -> u32
-    ensures { λ r. ⌜ r ≡ byPick pick protected permitted split ⌝ }
-{
-    if pick == 0 {
-        return protected;
-    }
-    if pick == 1 {
-        return permitted;
-    }
-    split
-}
-
 // The time of an approach's through, by the pick of its pair.
 fn through_in(cells: &[u32], a: usize) -> u32
     requires { ⌜ (length (now cells) ≡ sheetCount) × (a < approachCount) ⌝ }
     ensures { λ r. ⌜ r ≡ throughIn (now (cells .entry)) a ⌝ }
 {
     let split = line_in(cells, a, 28);
-    by_pick(
+    sheet_pairs::by_pick(
         pick_in(cells, a),
         line_in(cells, a, 17),
         line_in(cells, a, 26),
@@ -96,7 +82,7 @@ fn left_in(cells: &[u32], a: usize) -> u32
     ensures { λ r. ⌜ r ≡ leftIn (now (cells .entry)) a ⌝ }
 {
     let split = line_in(cells, a, 28);
-    by_pick(pick_in(cells, a), line_in(cells, a, 16), 0, split)
+    sheet_pairs::by_pick(pick_in(cells, a), line_in(cells, a, 16), 0, split)
 }
 
 // What the right total of an approach adds to line 18, with o opposite it and c's through across it.

@@ -5,7 +5,7 @@ ghost use mathlib.Core.List.{[], _∷_};
 ghost use Prim.Native.Nat.{_+_, _≤_, max};
 ghost use lib.Dec.{eqb, leb};
 ghost use Rattle.layout.specs.Sheet.{BLANK as blank};
-ghost use Rattle.procedure.specs.Pairs.{picked, pair};
+ghost use Rattle.procedure.specs.Pairs.{picked, pair, by-pick as byPick};
 ghost use Rattle.line_bounds.specs.Bounds.{mostAdjusted, Bounded};
 ghost use Rattle.line_stages.specs.Cells.{cellsOf};
 ghost use Rattle.sheet_pairs.specs.Cells.{pairCells};
@@ -59,7 +59,7 @@ fn pick_unprotected(permitted: Ms, split: Ms) -> u32
 }
 
 // The least of the three, the earlier on a tie. BLANK is larger than any time.
-fn pick(protected: Ms, permitted: Ms, split: Ms) -> u32
+pub fn pick(protected: Ms, permitted: Ms, split: Ms) -> u32
     ensures { λ r. ⌜ r ≡ picked (protected .0) (permitted .0) (split .0) ⌝ }
 {
     if permitted.0 < protected.0 {
@@ -69,6 +69,19 @@ fn pick(protected: Ms, permitted: Ms, split: Ms) -> u32
         return pick_unprotected(permitted, split);
     }
     0
+}
+
+// What goes by a pick: protected, permitted, split.
+pub fn by_pick(pick: u32, protected: u32, permitted: u32, split: u32) -> u32
+    ensures { λ r. ⌜ r ≡ byPick pick protected permitted split ⌝ }
+{
+    if pick == 0 {
+        return protected;
+    }
+    if pick == 1 {
+        return permitted;
+    }
+    split
 }
 
 // The cells of a pair, from the lines of its two approaches.

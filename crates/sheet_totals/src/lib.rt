@@ -98,7 +98,7 @@ const LETTER_ENDS: usize = 7;
 const ENDS: [u32; LETTER_ENDS] = [550, 640, 730, 820, 910, 1_000, 1_090];
 
 // A to H as 0 to 7.
-fn letter_of(icu: u32) -> u32
+pub fn letter_of(icu: u32) -> u32
     ensures { λ r. ⌜ r ≡ letterOf icu ⌝ }
 {
     let mut letter: usize = 0;
@@ -112,7 +112,7 @@ fn letter_of(icu: u32) -> u32
 }
 
 // Tenths of a percent, up.
-fn icu_of(required: Ms, cycle: Cycle) -> u32
+pub fn icu_of(required: Ms, cycle: Cycle) -> u32
     requires { ⌜ Within CycleKind (cycle .0) ⌝ }
     ensures { λ r. ⌜ r ≡ icuOf (required .0) (cycle .0) ⌝ }
 {

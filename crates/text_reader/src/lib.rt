@@ -46,6 +46,7 @@ fn entry_at(counted: Place, place: u32) -> usize
         Place::OfNothing => place,
         Place::OfEntries => place,
         Place::OfBytes => place,
+        Place::OfRecord => place,
     }
 }
 

@@ -6,11 +6,12 @@ use lib.Dec.{eqb, ltb}
 use Rattle.layout.specs.Entries.{approachCount}
 use Rattle.answers.specs.Answers.{refusalNumber}
 use Rattle.answers.specs.declared.Refusal.{Refusal}
-use Rattle.answers.specs.declared.Refusal.the-variants.{Size, Entry, Range, Shared, NoLane, File}
+use Rattle.answers.specs.declared.Refusal.the-variants.{Size, Entry, Range, Shared, NoLane, File, Store, Travel}
 use Rattle.answers.specs.declared.Answer.{Answer}
 use Rattle.answers.specs.declared.Answer.the-variants.{Accepted, Refused as No}
 use Rattle.kinds.specs.Kinds.{limitsOf, kindAt}
 use Rattle.kinds.specs.declared.Kind.{Kind}
+use Rattle.kinds.specs.declared.Kind.the-variants.{Storage, TravelTime}
 use Rattle.text.specs.Text.{ascii}
 use Rattle.text_names.specs.Names.{wordCount, approaches}
 use Rattle.text_phrases.specs.Phrases.{numbered, nameIn, entryName}
@@ -25,6 +26,10 @@ use Rattle.text_reader.specs.declared.Reading.the-variants.{Read, Misread, Refu
 -- "0 to 6", "0s to 20s": the limits of a kind, as its values are typed
 unfoldable pub limitsText : Kind → List ℕ
 limitsText kind = valueText kind (limitsOf kind .least) ++ ascii " to " ++ valueText kind (limitsOf kind .most) ++ ascii "\n"
+
+-- "the storage is outside 1 to 999"
+unfoldable pub outsideText : List ℕ → Kind → List ℕ
+outsideText what kind = what ++ ascii " is outside " ++ limitsText kind
 
 -- "EBL lanes is outside 0 to 6"
 unfoldable pub rangeText : ℕ → List ℕ
@@ -47,6 +52,8 @@ whyText Range place = rangeText place
 whyText Shared place = nameIn (approachRow place) ++ ascii ": a shared lane needs a through lane and no left lane beside it\n"
 whyText NoLane place = nameIn place ++ ascii ": vehicles, and no lane that takes them\n"
 whyText File place = fileText place
+whyText Store place = outsideText (ascii "the storage") Storage
+whyText Travel place = outsideText (ascii "the travel time") TravelTime
 
 -- "R3: EBL lanes is outside 0 to 6"
 unfoldable pub refusalText : Refusal → ℕ → List ℕ

@@ -7,6 +7,10 @@ use Rattle.text_values.specs.Working.{valueMost}
 abbrev pub limitsMost : ℕ
 limitsMost = valueMost + 4 + valueMost + 1
 
+-- " is outside " and the limits
+abbrev pub outsideMost : ℕ
+outsideMost = 12 + limitsMost
+
 -- the longest sentence of a refusal, a shared lane's, has 82; the rest is room for another
 abbrev pub whyMost : ℕ
 whyMost = 96

@@ -4,9 +4,9 @@ ghost use mathlib.Core.Path.{_≡_};
 ghost use lib.ListN.{length};
 ghost use Rattle.text.specs.Text.{Placed};
 ghost use Rattle.text_troubles.specs.Troubles.{troubleText};
-ghost use Rattle.text_refusals.specs.Refusals.{limitsText, rangeText, approachRow, fileText, whyText};
+ghost use Rattle.text_refusals.specs.Refusals.{limitsText, outsideText, rangeText, approachRow, fileText, whyText};
 ghost use Rattle.text_refusals.specs.Refusals.{refusalText, answerText, saidOf, readingText};
-ghost use Rattle.text_refusals.specs.Working.{limitsMost, whyMost, refusalMost};
+ghost use Rattle.text_refusals.specs.Working.{limitsMost, outsideMost, whyMost, refusalMost};
 use answers::Answer;
 use answers::Refusal;
 use kinds::Kind;
@@ -26,6 +26,17 @@ fn put_limits(out: &mut [u8], at: usize, kind: Kind) -> usize
     let parted = text::put_bytes(out, least, b" to ");
     let most = text_values::put_value(out, parted, kind, limits.most);
     text::put_byte(out, most, b'\n')
+}
+
+// What a number of a diamond is outside of.
+fn put_outside(out: &mut [u8], at: usize, what: &[u8], kind: Kind) -> usize
+    requires { ⌜ at + length (now what) + outsideMost ≤ length (now out) ⌝ }
+    ensures { λ r. ⌜ Placed (now (out .entry)) at (outsideText (now (what .entry)) kind) (now (out .exit)) r
+        × (r ≤ at + length (now (what .entry)) + outsideMost) ⌝ }
+{
+    let named = text::put_bytes(out, at, what);
+    let told = text::put_bytes(out, named, b" is outside ");
+    put_limits(out, told, kind)
 }
 
 fn put_range(out: &mut [u8], at: usize, entry: u32) -> usize
@@ -84,6 +95,8 @@ fn put_why(out: &mut [u8], at: usize, why: Refusal, place: u32) -> usize
             b": vehicles, and no lane that takes them\n",
         ),
         Refusal::File => put_file(out, at, place),
+        Refusal::Store => put_outside(out, at, b"the storage", Kind::Storage),
+        Refusal::Travel => put_outside(out, at, b"the travel time", Kind::TravelTime),
     }
 }
 

@@ -5,7 +5,7 @@ use mathlib.Core.List.{List}
 use lib.Dec.{eqb, ltb}
 use Rattle.kinds.specs.declared.Kind.{Kind}
 use Rattle.kinds.specs.declared.Kind.the-variants.{Lanes, Volume, IdealFlow, LostTime, MinimumGreen}
-use Rattle.kinds.specs.declared.Kind.the-variants.{SharedLane, Pedestrians, PushButton, PedestrianTime, FreeRight, Cycle}
+use Rattle.kinds.specs.declared.Kind.the-variants.{SharedLane, Pedestrians, PushButton, PedestrianTime, FreeRight, Cycle, Storage, TravelTime}
 use Rattle.text.specs.Text.{decimal}
 use Rattle.text_numbers.specs.Numbers.{tooLarge, numberOf}
 use Rattle.text_times.specs.Times.{timeOf, timeText}
@@ -27,6 +27,8 @@ isTime PushButton = false
 isTime PedestrianTime = true
 isTime FreeRight = false
 isTime Cycle = false
+isTime Storage = false
+isTime TravelTime = true
 
 -- a number that was read; one that is too large; and what is wrong with what is none
 unfoldable pub valueFrom : Trouble → ℕ → Value

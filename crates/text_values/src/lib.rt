@@ -47,6 +47,8 @@ fn is_time(kind: Kind) -> bool
         Kind::PedestrianTime => true,
         Kind::FreeRight => false,
         Kind::Cycle => false,
+        Kind::Storage => false,
+        Kind::TravelTime => true,
     }
 }
 

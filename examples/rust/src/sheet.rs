@@ -103,6 +103,6 @@ impl Sheet {
     }
 }
 
-fn allowed(cell: u32) -> Option<u32> {
+pub(crate) fn allowed(cell: u32) -> Option<u32> {
     (cell != BLANK).then_some(cell)
 }

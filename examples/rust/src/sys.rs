@@ -17,6 +17,12 @@ extern "C" {
         sheet_len: usize,
     ) -> IcuAnswer;
     fn icu_amend(sheet: *mut u32, len: usize, entry: u32, value: u32) -> IcuAnswer;
+    fn icu_diamond(
+        record: *const u32,
+        record_len: usize,
+        cells: *mut u32,
+        cells_len: usize,
+    ) -> IcuAnswer;
     fn icu_study_check(file: *const u8, len: usize) -> IcuAnswer;
     fn icu_study_count(file: *const u8, len: usize) -> u32;
     fn icu_study_site(
@@ -58,6 +64,17 @@ pub fn fill(entries: &[u32], sheet: &mut [u32]) -> Result<(), Refusal> {
 pub fn amend(sheet: &mut [u32], entry: u32, value: u32) -> Result<(), Refusal> {
     // SAFETY: the list is live for the call and of the length given.
     result(unsafe { icu_amend(sheet.as_mut_ptr(), sheet.len(), entry, value) })
+}
+
+/// Gives the number and the place of a refusal, whose places are of two junctions.
+pub fn diamond(record: &[u32], cells: &mut [u32]) -> Result<(), (u32, u32)> {
+    let (list, len) = (cells.as_mut_ptr(), cells.len());
+    // SAFETY: both lists are live for the call, of the lengths given, and do not overlap.
+    let answer = unsafe { icu_diamond(record.as_ptr(), record.len(), list, len) };
+    match answer.number {
+        0 => Ok(()),
+        number => Err((number, answer.place)),
+    }
 }
 
 pub fn study_check(file: &[u8]) -> Result<(), Refusal> {

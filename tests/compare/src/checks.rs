@@ -3,6 +3,8 @@
 
 #[cfg(feature = "amend")]
 mod amend;
+#[cfg(feature = "diamond")]
+mod diamond;
 mod fill;
 #[cfg(feature = "study")]
 mod study;
@@ -30,6 +32,8 @@ pub const CHECKS: &[(&str, usize, Check)] = &[
     ("study", 1, study::write),
     #[cfg(feature = "study")]
     ("study", 1, study::list),
+    #[cfg(feature = "diamond")]
+    ("diamond", 8, diamond::diamond),
 ];
 
 /// A list that a call only reads must come back as it was.

@@ -1,6 +1,8 @@
 //! Inputs to try: junctions full of corners, entries a little wrong and very wrong, sheets of
 //! every history, amendments, and study files with every kind of damage.
 
+pub mod diamond;
+
 use crate::rules::{self, decay, kind_of, CELLS, CYCLE, ENTRIES, LAST, LIMITS, PAIRS, SITES};
 use std::sync::OnceLock;
 
@@ -313,7 +315,7 @@ pub fn any_number(rng: &mut Rng) -> u32 {
     }
 }
 
-fn any_numbers(rng: &mut Rng, length: usize) -> Vec<u32> {
+pub fn any_numbers(rng: &mut Rng, length: usize) -> Vec<u32> {
     (0..length).map(|_| any_number(rng)).collect()
 }
 

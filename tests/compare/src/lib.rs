@@ -2,6 +2,7 @@
 
 #![deny(unsafe_code)]
 
+pub mod diamond;
 pub mod generate;
 #[allow(unsafe_code)]
 pub mod library;

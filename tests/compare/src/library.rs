@@ -56,6 +56,16 @@ extern "C" {
     ) -> IcuAnswer;
 }
 
+#[cfg(feature = "diamond")]
+extern "C" {
+    fn icu_diamond(
+        record: *const u32,
+        record_len: usize,
+        cells: *mut u32,
+        cells_len: usize,
+    ) -> IcuAnswer;
+}
+
 #[cfg(feature = "fill")]
 pub fn fill(entries: &[u32], sheet: &mut [u32]) -> Answer {
     // SAFETY: both lists are live for the call, of the lengths given, and do not overlap.
@@ -106,4 +116,11 @@ pub fn study_list(file: &[u8], out: &mut [u8], length: &mut u32) -> Answer {
     let (room, len) = (out.as_mut_ptr(), out.len());
     // SAFETY: file, room and length are live for the call, of the lengths given, and apart.
     unsafe { icu_study_list(file.as_ptr(), file.len(), room, len, length) }.into()
+}
+
+#[cfg(feature = "diamond")]
+pub fn diamond(record: &[u32], cells: &mut [u32]) -> Answer {
+    let (list, len) = (cells.as_mut_ptr(), cells.len());
+    // SAFETY: both lists are live for the call, of the lengths given, and do not overlap.
+    unsafe { icu_diamond(record.as_ptr(), record.len(), list, len) }.into()
 }

@@ -1,5 +1,5 @@
 //! Compares the library with the plain rules on pseudo-random inputs:
-//! `compare N [SEED] [fill] [amend] [study]`, all the calls built in where none is named.
+//! `compare N [SEED] [fill] [amend] [study] [diamond]`, all the calls built in where none is named.
 
 #![forbid(unsafe_code)]
 
@@ -13,6 +13,8 @@ use report::Tally;
 use std::process::ExitCode;
 use std::time::{SystemTime, UNIX_EPOCH};
 
+const CALLS: [&str; 4] = ["fill", "amend", "study", "diamond"];
+
 struct Wish {
     inputs: u64,
     seed: u64,
@@ -25,7 +27,7 @@ fn wish() -> Option<Wish> {
     for word in std::env::args().skip(1) {
         match word.parse::<u64>() {
             Ok(number) => numbers.push(number),
-            Err(_) if ["fill", "amend", "study"].contains(&word.as_str()) => words.push(word),
+            Err(_) if CALLS.contains(&word.as_str()) => words.push(word),
             Err(_) => return None,
         }
     }
@@ -52,7 +54,7 @@ fn chosen(words: &[String]) -> Vec<Check> {
 
 fn main() -> ExitCode {
     let Some(wish) = wish() else {
-        eprintln!("usage: compare N [SEED] [fill] [amend] [study]");
+        eprintln!("usage: compare N [SEED] [fill] [amend] [study] [diamond]");
         return ExitCode::from(2);
     };
     let checks = chosen(&wish.words);

@@ -1,13 +1,14 @@
 //! What is told: the counts at the end, and a difference with its input and both outputs.
 
 use crate::lent::{Canary, Lent};
+use compare::diamond;
 use compare::generate::picks;
 use compare::rules::{Answer, BLANK, FIRST_LINE, LAST, LINES, PAIRS};
 use std::collections::BTreeMap;
 use std::fmt::{Debug, Write};
 
-const NAMES: [&str; 7] = [
-    "accepted", "SIZE", "ENTRY", "RANGE", "SHARED", "NOLANE", "FILE",
+const NAMES: [&str; 9] = [
+    "accepted", "SIZE", "ENTRY", "RANGE", "SHARED", "NOLANE", "FILE", "STORE", "TRAVEL",
 ];
 const APPROACHES: [&str; 4] = ["EB", "WB", "NB", "SB"];
 
@@ -19,6 +20,18 @@ pub struct Tally {
     picked: [u64; 3],
     blanks: [u64; 2],
     crossed: [u64; 2],
+    diamonds: Diamonds,
+}
+
+/// The turns that interchanges took.
+#[derive(Default)]
+struct Diamonds {
+    letters: [u64; 8],
+    allowed: [u64; 3],
+    picked: [u64; 3],
+    ties: [u64; 2],
+    near: [u64; 2],
+    equal: u64,
 }
 
 impl Tally {
@@ -44,6 +57,50 @@ impl Tally {
         }
     }
 
+    /// Counts the turns that an accepted record took.
+    #[cfg_attr(not(feature = "diamond"), allow(dead_code))]
+    pub fn interchange(&mut self, record: &diamond::Record, cells: &[u32]) {
+        let counts = &mut self.diamonds;
+        let [leading, lagging, lead_lag] = [0, 1, 2].map(|plan| cells[diamond::PLANS + plan]);
+        counts.letters[cells[diamond::CELLS - 1] as usize & 7] += 1;
+        counts.picked[cells[diamond::PICK] as usize % 3] += 1;
+        let allowed = match (lagging, lead_lag) {
+            (BLANK, BLANK) => 0,
+            (BLANK, _) => 1,
+            _ => 2,
+        };
+        counts.allowed[allowed] += 1;
+        if allowed > 0 {
+            counts.ties[allowed - 1] += u64::from(leading == lead_lag);
+            counts.near[0] += u64::from(leading + 1 == lead_lag);
+            counts.near[1] += u64::from(leading == lead_lag + 1);
+        }
+        for storage in 0..4 {
+            // No other ratio of numbers in range is 1 exactly.
+            let n = diamond::per_cycle(record, storage);
+            let equal = n == 2_250_000 && record[diamond::STORAGES + storage] == 657;
+            counts.equal += u64::from(equal);
+        }
+    }
+
+    fn print_diamonds(&self) {
+        let counts = &self.diamonds;
+        println!("diamonds' letters A to H: {:?}", counts.letters);
+        println!(
+            "allowed leading alternate alone, lead-lag besides, all: {:?}",
+            counts.allowed
+        );
+        println!(
+            "picked leading alternate, lagging, lead-lag: {:?}",
+            counts.picked
+        );
+        println!(
+            "leading alternate as long as lead-lag alone, as both: {:?}; 1 ms less, more: {:?}",
+            counts.ties, counts.near
+        );
+        println!("storage ratios of 1 exactly: {}", counts.equal);
+    }
+
     pub fn print(&self) {
         let mut last = "";
         let mut text = String::new();
@@ -60,6 +117,9 @@ impl Tally {
         println!("picked protected, permitted, split: {:?}", self.picked);
         println!("BLANK in lines 23, 24: {:?}", self.blanks);
         println!("crossed with lefts alone, with nobody driving: {:?}", self.crossed);
+        if self.diamonds.picked.iter().sum::<u64>() > 0 {
+            self.print_diamonds();
+        }
     }
 }
 
@@ -87,11 +147,48 @@ pub fn cell_name(at: usize) -> String {
     }
 }
 
+/// What a cell of an interchange is.
+#[cfg_attr(not(feature = "diamond"), allow(dead_code))]
+pub fn diamond_cell(at: usize) -> String {
+    const SIDES: [&str; 14] = [
+        "EBT", "EBR", "WBL", "WBT", "SBL", "SBT", "SBR", "WBT", "WBR", "EBL", "EBT", "NBL", "NBT",
+        "NBR",
+    ];
+    const PAIRS: [&str; 4] = ["isolated 1", "alternate", "combined", "overlap"];
+    const WHOLE: [&str; 7] = [
+        "leading alternate",
+        "lagging",
+        "lead-lag",
+        "picked",
+        "best",
+        "ICU",
+        "letter",
+    ];
+    let way = |east: usize| ["west", "east"][east];
+    match at {
+        0..14 => format!("{} {}", way(at / 7), SIDES[at]),
+        14..22 => format!("{} {}", PAIRS[(at - 14) / 2], way(at % 2)),
+        _ => WHOLE
+            .get(at - 22)
+            .map_or_else(|| format!("cell {at}"), |cell| cell.to_string()),
+    }
+}
+
 /// The text of a difference, or nothing where the two outcomes agree.
 pub fn compare<T: Canary + Debug>(
     input: &dyn Fn() -> String,
     ours: (Answer, &Lent<T>),
     theirs: (Answer, &Lent<T>),
+) -> Result<(), String> {
+    compare_named(input, ours, theirs, cell_name)
+}
+
+/// The same, with the names of the cells.
+pub fn compare_named<T: Canary + Debug>(
+    input: &dyn Fn() -> String,
+    ours: (Answer, &Lent<T>),
+    theirs: (Answer, &Lent<T>),
+    name: fn(usize) -> String,
 ) -> Result<(), String> {
     if ours.0 == theirs.0 && ours.1 == theirs.1 {
         return Ok(());
@@ -103,7 +200,7 @@ pub fn compare<T: Canary + Debug>(
         let _ = writeln!(
             text,
             "at {at} ({}): rules {x:?}, library {y:?}",
-            cell_name(at)
+            name(at)
         );
     }
     if !ours.1.same_around(theirs.1) {

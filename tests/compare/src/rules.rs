@@ -1,5 +1,6 @@
 //! The rules of the worksheet in plain Rust, written from the paper alone.
 //! Numbers are worked out in 64 bits, where nothing in an acceptable junction overflows.
+//! What fills and interchanges share is `inline(always)`: left to the compiler, two callers cost a fill half its time again.
 
 pub const BLANK: u32 = u32::MAX;
 pub const ENTRIES: usize = 81;
@@ -26,7 +27,7 @@ pub const SHARED: u32 = 4;
 pub const NOLANE: u32 = 5;
 pub const FILE: u32 = 6;
 
-const fn refused(number: u32, place: u32) -> Answer {
+pub(crate) const fn refused(number: u32, place: u32) -> Answer {
     Answer { number, place }
 }
 
@@ -169,6 +170,7 @@ impl Movement {
 }
 
 impl Approach {
+    #[inline(always)]
     fn read(e: &[u32; ENTRIES], a: usize) -> Approach {
         let own = |j: usize| e[60 + 5 * a + j];
         Approach {
@@ -238,6 +240,7 @@ fn green(volume: u64, cycle: u64, flow: u64) -> u64 {
     (1_000 * volume * cycle).div_ceil(flow)
 }
 
+#[inline(always)]
 fn volumes(x: &Approach) -> Volumes {
     let folded_left = if x.shared { x.left.volume } else { 0 };
     let folded_right = if x.right.lanes == 0 {
@@ -268,6 +271,7 @@ fn lanes_flow(x: &Movement, factors: &[u64; 3]) -> u64 {
     x.ideal * x.lanes * factors[x.lanes.min(3) as usize - 1]
 }
 
+#[inline(always)]
 fn flows(x: &Approach, v: &Volumes) -> Flows {
     let (c, a, b) = (v.through, v.folded_right, v.folded_left);
     // Without folded turns both factors are 10,000 exactly, and without lefts they are one.
@@ -296,6 +300,7 @@ fn flows(x: &Approach, v: &Volumes) -> Flows {
     }
 }
 
+#[inline(always)]
 fn walking(x: &Approach, v: &Volumes, cycle: u64) -> Walking {
     let p = x.walkers;
     if p == 0 {
@@ -329,6 +334,7 @@ fn walking(x: &Approach, v: &Volumes, cycle: u64) -> Walking {
     }
 }
 
+#[inline(always)]
 fn own(e: &[u32; ENTRIES], a: usize, cycle: u64) -> Own {
     let entries = Approach::read(e, a);
     let volumes = volumes(&entries);
@@ -391,6 +397,7 @@ fn adjusted(x: &Movement, volume: u64, reference: u64) -> u64 {
 }
 
 /// Lines 1 to 18.
+#[inline(always)]
 fn first_lines(x: &Own, cycle: u64, line: &mut [u32; LINES]) {
     let (e, v, f, w) = (&x.entries, &x.volumes, &x.flows, &x.walking);
     let left = green(v.left, cycle, f.left);
@@ -426,6 +433,14 @@ fn first_lines(x: &Own, cycle: u64, line: &mut [u32; LINES]) {
     for (cell, number) in line.iter_mut().zip(found) {
         *cell = number as u32;
     }
+}
+
+/// Lines 16 to 18 of one approach, of entries already found acceptable.
+pub(crate) fn adjusted_lines(entries: &[u32; ENTRIES], a: usize) -> [u32; 3] {
+    let cycle = u64::from(entries[CYCLE]);
+    let mut line = [0; LINES];
+    first_lines(&own(entries, a, cycle), cycle, &mut line);
+    [line[15], line[16], line[17]]
 }
 
 /// How many through vehicles a left turn is worth, in ten-thousandths.

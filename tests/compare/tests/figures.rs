@@ -1,5 +1,6 @@
 //! Every figure the paper gives for K1 to K10, and its listing, against the plain rules.
 
+use compare::diamond;
 use compare::rules::*;
 
 fn k1() -> [u32; ENTRIES] {
@@ -154,4 +155,115 @@ fn nobody_drives_and_people_cross() {
     let s = sheet(&with(closed_leg(0), &[(45, 1), (46, 50)]));
     assert_eq!(line(&s, 3, 17), 24_000);
     assert_eq!([27, 28].map(|k| line(&s, 3, k)), [3_325, 24_000]);
+}
+
+/// Lanes and volumes of an approach as the book's third example prints them.
+fn put_leg(e: &mut [u32], a: usize, turns: [(u32, u32); 3]) {
+    for (turn, (lanes, volume)) in turns.into_iter().enumerate() {
+        e[15 * a + 5 * turn] = lanes;
+        e[15 * a + 5 * turn + 1] = volume;
+    }
+}
+
+/// The book's third example, storages cut to whole vehicles.
+fn example_3() -> diamond::Record {
+    let mut record = [0; diamond::RECORD];
+    for side in [0, diamond::EAST] {
+        for m in 0..12 {
+            record[side + 5 * m + 2..side + 5 * m + 5].copy_from_slice(&[2_000, 4_000, 4_000]);
+        }
+        record[side + CYCLE] = 120;
+    }
+    put_leg(&mut record, 0, [(0, 0), (2, 500), (0, 200)]);
+    put_leg(&mut record, 1, [(2, 300), (2, 1_100), (0, 0)]);
+    put_leg(&mut record, 3, [(2, 500), (1, 10), (0, 500)]);
+    let east = &mut record[diamond::EAST..];
+    put_leg(east, 1, [(0, 0), (2, 600), (1, 200)]);
+    put_leg(east, 0, [(1, 200), (2, 800), (0, 0)]);
+    put_leg(east, 2, [(2, 800), (0, 0), (1, 100)]);
+    east[60 + 5 + 4] = 1;
+    record[diamond::STORAGES..].copy_from_slice(&[19, 19, 26, 26, 7_100]);
+    record
+}
+
+fn cells(record: &[u32]) -> [u32; diamond::CELLS] {
+    let mut cells = [0; diamond::CELLS];
+    assert_eq!(diamond::diamond(record, &mut cells), ACCEPTED);
+    cells
+}
+
+#[test]
+fn the_books_third_example() {
+    let found = cells(&example_3());
+    assert_eq!(found[..7], [27_052, 0, 13_759, 38_664, 20_265, 39_895, 0]);
+    assert_eq!(found[7..14], [22_908, 0, 16_632, 29_211, 30_024, 0, 11_059]);
+    assert_eq!(found[14..18], [80_706, 69_564, 78_559, 59_235]);
+    assert_eq!(found[18..22], [80_706, 69_564, 7_100, 7_100]);
+    assert_eq!(found[22..], [105_679, BLANK, BLANK, 0, 105_679, 881, 4]);
+}
+
+#[test]
+fn storages_allow_plans() {
+    let plans = |storages: [u32; 4]| {
+        let mut record = example_3();
+        record[diamond::STORAGES..diamond::TRAVEL_TIME].copy_from_slice(&storages);
+        let found = cells(&record);
+        (found[22], found[23], found[24], found[25])
+    };
+    // x is 10, 6.67, 16.67 and 26.67: 14.04.., 9.97.., 21.89.. and 33.27.. vehicles
+    assert_eq!(plans([15, 10, 22, 34]), (105_679, 80_706, 80_706, 1));
+    assert_eq!(plans([14, 10, 22, 34]), (105_679, BLANK, 80_706, 2));
+    assert_eq!(plans([15, 9, 22, 34]), (105_679, BLANK, 80_706, 2));
+    assert_eq!(plans([15, 10, 21, 34]), (105_679, BLANK, BLANK, 0));
+    assert_eq!(plans([15, 10, 22, 33]), (105_679, BLANK, BLANK, 0));
+}
+
+#[test]
+fn a_ratio_of_1_is_not_below_1() {
+    // 625 vehicles and 1.28 times their root 25 are 657 on the point
+    let (n, storage) = (9_375 * 240, 657);
+    assert!(
+        !diamond::fits(n, storage)
+            && diamond::fits(n, storage + 1)
+            && diamond::fits(n - 1, storage)
+    );
+    for storage in 1..1_000u64 {
+        let root = ((1.6384 + 4.0 * storage as f64).sqrt() - 1.28) / 2.0;
+        let end = (3_600.0 * root * root) as u64;
+        assert!(diamond::fits(end - 1, storage) && !diamond::fits(end + 1, storage));
+        assert!(!diamond::fits(3_600 * storage, storage) && diamond::fits(0, storage));
+    }
+}
+
+#[test]
+fn refused_records() {
+    let answer = |changes: &[(usize, u32)]| {
+        let mut record = example_3();
+        changes.iter().for_each(|&(at, value)| record[at] = value);
+        let found = diamond::judge(&record);
+        (found.number, found.place)
+    };
+    let (late, shared) = ([(162, 0), (166, 60_001)], [(65, 1), (81 + 60, 1)]);
+    assert_eq!(answer(&late), (7, 162));
+    assert_eq!(answer(&[(165, 1_000), (166, 60_001)]), (7, 165));
+    assert_eq!(answer(&late[1..]), (8, 166));
+    assert_eq!(answer(&[(81 + 45, 0), (81 + 46, 1), late[0]]), (5, 21));
+    assert_eq!(answer(&[(81 + 30, 0), (15, 0), late[0]]), (5, 3));
+    assert_eq!(answer(&[shared[1], (50, 0), late[0]]), (4, 4));
+    assert_eq!(answer(&[shared[0], shared[1], (50, 0)]), (4, 1));
+    assert_eq!(answer(&[(161, 121), shared[0]]), (3, 161));
+    assert_eq!(answer(&[(161, 121), (160, 2)]), (3, 160));
+    assert_eq!(answer(&[(80, 121)]), (3, 161));
+    assert_eq!(answer(&[(80, 29), (161, 29), (81, 7)]), (3, 80));
+    assert_eq!(answer(&[(81, 7), shared[0]]), (3, 81));
+    assert_eq!(
+        diamond::judge(&[0; 166]),
+        Answer {
+            number: SIZE,
+            place: 0
+        }
+    );
+    let mut short = [7; 28];
+    assert_eq!(diamond::diamond(&example_3(), &mut short).number, SIZE);
+    assert_eq!(short, [7; 28]);
 }

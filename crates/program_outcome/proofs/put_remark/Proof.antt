@@ -14,6 +14,8 @@ put-remark-spec =
     (search needs) (search needs) (search needs) (search needs) (search needs) (search needs) (search needs) (search needs)
     (search needs) (search needs) (search needs) (search needs) (search needs) (search needs) (search needs) (search needs)
     (search needs) (search needs) (search needs) (search needs) (search needs) (search needs) (search needs) (search needs)
+    (search needs) (search needs) (search needs)
+    (λ c. (search (placed-as remarkText), search needs)) (search needs)
     (λ c. (search (placed-as remarkText), search needs)) (search needs)
     (λ c. (search (placed-as remarkText), search needs)) (search needs)
     (λ c. (search (placed-as remarkText), search needs)) (search needs)

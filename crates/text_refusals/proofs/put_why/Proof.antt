@@ -19,8 +19,10 @@ pub put-why-spec : {M : Type 1} → statement M
 unfolding whyText ascii
 put-why-spec =
     tie.close
-    (tie.spec (search needs) (search needs) (search needs) (search needs) (search needs) (search needs) (search needs)
+    (tie.spec (search needs) (search needs) (search needs) (search needs) (search needs) (search needs) (search needs) (search needs)
+    (search needs) (search needs) (search needs) (search needs) (search needs) (search needs) (search needs) (search needs) (search needs)
     (search needs) (search needs) (search needs) (search needs) (search needs) (search needs) (search needs)
-    (search needs) (search needs) (search needs) (search needs) (λ c. (search why-placed, search needs)) (search needs)
-    (λ c. (search why-placed, search needs)) (search needs) (λ c. (search why-placed, search needs)) (search needs) shared (search needs)
-    (λ c. (search why-placed, search needs)) (search needs) (λ c. (search why-placed, search needs)))
+    (λ c. (search why-placed, search needs)) (search needs) (λ c. (search why-placed, search needs)) (search needs)
+    (λ c. (search why-placed, search needs)) (search needs) shared (search needs) (λ c. (search why-placed, search needs)) (search needs)
+    (λ c. (search why-placed, search needs)) (search needs) (λ c. (search why-placed, search needs)) (search needs)
+    (λ c. (search why-placed, search needs)))
