@@ -1,6 +1,7 @@
 /*
  * Rates the capacity of a road junction by Intersection Capacity Utilization 2003:
- * fills a worksheet, amends it, rates a diamond interchange, and reads, writes and lists study files.
+ * fills a worksheet, amends it, rates a diamond interchange, keeps the sites of several offices apart in
+ * one open study, and reads, writes and lists study files.
  *
  * All numbers are whole. Volumes and flows are vehicles per hour, times milliseconds, the cycle
  * seconds, factors and shares ten-thousandths, the ICU tenths of a percent.
@@ -10,7 +11,8 @@
  * of numbers must be aligned as such, and a list that a call writes may not overlap another.
  *
  * The calls keep no state. Any two may run at the same time, in any threads, as long as neither
- * writes a list that the other is lent; both may read the same one.
+ * writes a list that the other is lent; both may read the same one. What this asks of a program whose
+ * threads share an open study stands with those calls.
  *
  * Every call says what it refuses. Where several refusals apply, the first in the order of their
  * numbers is answered, unless the call says otherwise. A refused call alters nothing.
@@ -27,10 +29,11 @@ extern "C" {
 
 /* The version: a change of the first number changes what programs may rely on, a change of the
  * second what the same entries may give or what calls there are. 1.1: those who cross have their time
- * where nobody drives. 1.2: icu_diamond; all other calls give what they gave. */
+ * where nobody drives. 1.2: icu_diamond; all other calls give what they gave. 1.3: icu_open_add,
+ * icu_open_amend, icu_open_read; all other calls give what they gave. */
 #define ICU2003_VERSION_MAJOR 1
-#define ICU2003_VERSION_MINOR 2
-#define ICU2003_VERSION "1.2"
+#define ICU2003_VERSION_MINOR 3
+#define ICU2003_VERSION "1.3"
 
 /* ------------------------------------------------------------------ answers */
 
@@ -52,7 +55,10 @@ enum {
                        place: see the calls */
     ICU_STORE = 7,  /* a storage of a diamond interchange outside its range; place: the lowest
                        such, 162 to 165 */
-    ICU_TRAVEL = 8  /* its travel time outside its range; place 166 */
+    ICU_TRAVEL = 8, /* its travel time outside its range; place 166 */
+    ICU_OWNER = 9,  /* the office has no site there, or gives its number as 0; place: the site, or
+                       0 for an add */
+    ICU_FULL = 10   /* an add to an open study without a free place; place 0 */
 };
 
 /* ------------------------------------------------------------------ the 81 entries */
@@ -221,6 +227,70 @@ enum { ICU_LEADING_ALTERNATE = 0, ICU_LAGGING = 1, ICU_LEAD_LAG = 2 };
  * The cells stay as they were on a refusal; the record always does.
  */
 IcuAnswer icu_diamond(const uint32_t *record, size_t record_len, uint32_t *cells, size_t cells_len);
+
+/* ------------------------------------------------------------------ open studies */
+
+/*
+ * An open study is two lists: the owners of its 180 places and the blocks of 81 entries that stand at
+ * them. An owner is the number of an office, 0 where the place is free. Places and sites are counted
+ * from 0. An office is any number but 0; there may be as many offices as places.
+ *
+ * An office adds sites, amends its own and reads its own. What it does alters no block and no owner of
+ * another's, and the answers tell it nothing of another's: only an add says whether a place is free, and
+ * the lowest is the one that it gets. A site reads as the fresh fill of the entries it was added with,
+ * all its accepted amendments made in order.
+ *
+ * Both lists are lent, so they may hold anything. What a free block holds is of no matter; a block with
+ * bad entries is refused when it is read, and may be put right by an amendment.
+ *
+ * Checks come in this order: ICU_SIZE, ICU_ENTRY, ICU_OWNER, ICU_RANGE, ICU_SHARED, ICU_NOLANE, ICU_FULL.
+ *
+ * Threads that share a study: an add writes owners and blocks, an amendment writes blocks. While one
+ * thread is in either of these no other may be in any call with the same study, also not for another
+ * office; reads may run together. So put one lock around each call; a readers-writer lock does, with
+ * add and amend as its writers. A call is one step: between two of them others may have added, and a
+ * refusal or a lowest place holds as of its own call.
+ *
+ * The office's number is what the program says it is. The calls keep numbers apart; they do not prove
+ * who is calling. That is for the program to do.
+ */
+#define ICU_PLACES 180
+#define ICU_BLOCKS (180 * 81) /* entry e of a site stands at 81 * site + e */
+
+/*
+ * Adds a site of the office: the lowest free place gets the office as its owner and the entries as its
+ * block, and *place that place, 0 to 179. All else stays.
+ * Refuses ICU_SIZE (place 0) where owners_len is not 180, blocks_len not 180 times 81 or entries_len
+ * not 81; ICU_OWNER (place 0) where office is 0; then ICU_RANGE, ICU_SHARED and ICU_NOLANE of the
+ * entries; then ICU_FULL (place 0) where no place is free.
+ * Owners, blocks and *place stay as they were on a refusal; the entries always do.
+ */
+IcuAnswer icu_open_add(uint32_t *owners, size_t owners_len, uint32_t *blocks, size_t blocks_len,
+                       uint32_t office, const uint32_t *entries, size_t entries_len,
+                       uint32_t *place);
+
+/*
+ * Amends one entry of a site of the office's own: that one number of its block. No sheet is worked out.
+ * Refuses ICU_SIZE (place 0) where owners_len is not 180 or blocks_len not 180 times 81; ICU_ENTRY
+ * (place 0) where entry is above 80; ICU_OWNER (place: the site as asked for, whatever number it is)
+ * where office is 0 and where the place is above 179, free or another's; then ICU_RANGE, ICU_SHARED and
+ * ICU_NOLANE of the block's entries as they would stand, with places within the block.
+ * The blocks stay as they were on a refusal; the owners always do.
+ */
+IcuAnswer icu_open_amend(const uint32_t *owners, size_t owners_len, uint32_t *blocks,
+                         size_t blocks_len, uint32_t office, uint32_t site, uint32_t entry,
+                         uint32_t value);
+
+/*
+ * Reads a site of the office's own: fills the sheet from its block, all 209 cells.
+ * Refuses ICU_SIZE (place 0) where owners_len is not 180, blocks_len not 180 times 81 or sheet_len not
+ * 209; ICU_OWNER as icu_open_amend does; then ICU_RANGE, ICU_SHARED and ICU_NOLANE of the block, with
+ * places within it.
+ * The sheet stays as it was on a refusal; owners and blocks always do.
+ */
+IcuAnswer icu_open_read(const uint32_t *owners, size_t owners_len, const uint32_t *blocks,
+                        size_t blocks_len, uint32_t office, uint32_t site, uint32_t *sheet,
+                        size_t sheet_len);
 
 /* ------------------------------------------------------------------ study files */
 

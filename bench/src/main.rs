@@ -3,6 +3,7 @@
 #![forbid(unsafe_code)]
 
 mod junctions;
+mod open;
 mod steps;
 mod timing;
 
@@ -186,4 +187,5 @@ fn main() {
         time_diamond(name, &records, rounds);
         time_record_in_fills(&records, rounds);
     }
+    open::time(&mut rng, &mix, rounds);
 }

@@ -44,6 +44,10 @@ PUBLIC = {
     "program_list": ["takes", "is_named", "run"],
     "program_target": ["judge"],
     "program_diamond": ["takes", "run"],
+    "program_office": ["job_of", "tell", "start"],
+    "program_open_add": ["run"],
+    "program_open_amend": ["run"],
+    "program_open_read": ["run"],
     "diamond_beside": ["fill"],
     "diamond_page": ["print"],
 }

@@ -1,5 +1,6 @@
 /*
- * The edges of the interface: null with length 0 for every list, and the names of the lines and of an interchange's numbers.
+ * The edges of the interface: null with length 0 for every list, the names of the lines and of an interchange's numbers, and
+ * two offices' first steps in an open study.
  * Prints nothing and ends with 0 where all is as the header says.
  */
 #include <stdio.h>
@@ -117,6 +118,113 @@ static void diamond(void)
     diamond_cells(record, cells);
 }
 
+enum { CITY = 1, COUNTY = 2 };
+
+/* An open study, beside what a call writes of it; one number more than is lent, to lend that too. */
+typedef struct Open {
+    uint32_t owners[ICU_PLACES + 1], blocks[ICU_BLOCKS + 1], entries[ICU_ENTRIES + 1], sheet[ICU_CELLS + 1], place;
+} Open;
+
+static IcuAnswer add(Open *o, uint32_t office)
+{
+    return icu_open_add(o->owners, ICU_PLACES, o->blocks, ICU_BLOCKS, office, o->entries, ICU_ENTRIES, &o->place);
+}
+
+static IcuAnswer amend(Open *o, uint32_t office, uint32_t site, uint32_t entry, uint32_t value)
+{
+    return icu_open_amend(o->owners, ICU_PLACES, o->blocks, ICU_BLOCKS, office, site, entry, value);
+}
+
+static IcuAnswer read_site(Open *o, uint32_t office, uint32_t site)
+{
+    return icu_open_read(o->owners, ICU_PLACES, o->blocks, ICU_BLOCKS, office, site, o->sheet, ICU_CELLS);
+}
+
+/* Each call that these lengths do not fit. */
+static void wrong_sizes(const char *what, Open *o, size_t owners, size_t blocks, size_t entries, size_t sheet)
+{
+    uint32_t *owned = owners ? o->owners : NULL, *held = blocks ? o->blocks : NULL, *cells = sheet ? o->sheet : NULL;
+    const uint32_t *list = entries ? o->entries : NULL;
+
+    expect(what, icu_open_add(owned, owners, held, blocks, CITY, list, entries, &o->place), ICU_SIZE, 0);
+    expect(what, icu_open_read(owned, owners, held, blocks, CITY, 0, cells, sheet), ICU_SIZE, 0);
+    if (owners != ICU_PLACES || blocks != ICU_BLOCKS)
+        expect(what, icu_open_amend(owned, owners, held, blocks, CITY, 0, 0, 0), ICU_SIZE, 0);
+}
+
+static void open_sizes(Open *o)
+{
+    wrong_sizes("open, nothing lent", o, 0, 0, 0, 0);
+    wrong_sizes("open, no owners", o, 0, ICU_BLOCKS, ICU_ENTRIES, ICU_CELLS);
+    wrong_sizes("open, no blocks", o, ICU_PLACES, 0, ICU_ENTRIES, ICU_CELLS);
+    wrong_sizes("open, no entries and no sheet", o, ICU_PLACES, ICU_BLOCKS, 0, 0);
+    for (int by = -1; by <= 1; by += 2) {
+        wrong_sizes("open, owners' length", o, ICU_PLACES + by, ICU_BLOCKS, ICU_ENTRIES, ICU_CELLS);
+        wrong_sizes("open, blocks' length", o, ICU_PLACES, ICU_BLOCKS + by, ICU_ENTRIES, ICU_CELLS);
+        wrong_sizes("open, entries' and sheet's length", o, ICU_PLACES, ICU_BLOCKS, ICU_ENTRIES + by, ICU_CELLS + by);
+    }
+}
+
+/* The city's site at place 0, the county's at 1: each amends and reads its own, and no other. */
+static void two_offices(Open *o)
+{
+    const uint32_t lefts = ICU_VOLUME(ICU_MOVEMENT(ICU_EB, ICU_LEFT));
+
+    expect("city adds", add(o, CITY), ICU_ACCEPTED, 0);
+    expect_cell("city's place", o->place, 0);
+    o->entries[lefts] = 200;
+    expect("county adds", add(o, COUNTY), ICU_ACCEPTED, 0);
+    expect_cell("county's place", o->place, 1);
+    expect_cell("city's owner", o->owners[0], CITY);
+    expect_cell("county's owner", o->owners[1], COUNTY);
+    expect_cell("county's lefts", o->blocks[ICU_ENTRIES + lefts], 200);
+    expect("city amends", amend(o, CITY, 0, lefts, 300), ICU_ACCEPTED, 0);
+    expect_cell("city's lefts", o->blocks[lefts], 300);
+    expect("county amends the city's", amend(o, COUNTY, 0, lefts, 9), ICU_OWNER, 0);
+    expect("city reads the county's", read_site(o, CITY, 1), ICU_OWNER, 1);
+    expect("county reads", read_site(o, COUNTY, 1), ICU_ACCEPTED, 0);
+    expect_cell("county's adjusted left", o->sheet[ICU_LINE(ICU_EB, ICU_LEFT_ADJUSTED)], 17297);
+    expect("city reads", read_site(o, CITY, 0), ICU_ACCEPTED, 0);
+    expect_cell("city's lefts, read", o->sheet[ICU_LINE(ICU_EB, ICU_LEFT_VOLUME)], 300);
+}
+
+/* What is refused of the study that the two have made, one refusal before the other. */
+static void open_refusals(Open *o)
+{
+    const uint32_t cycle = ICU_CYCLE;
+
+    o->place = 7;
+    expect("add, no office", add(o, 0), ICU_OWNER, 0);
+    expect("amend, entry 81 of another's", amend(o, COUNTY, 0, ICU_ENTRIES, 0), ICU_ENTRY, 0);
+    expect("amend, a free place", amend(o, CITY, 2, cycle, 29), ICU_OWNER, 2);
+    expect("amend, no office", amend(o, 0, 2, cycle, 120), ICU_OWNER, 2);
+    expect("amend, no such place", amend(o, CITY, ICU_PLACES, cycle, 120), ICU_OWNER, ICU_PLACES);
+    expect("read, no such place", read_site(o, CITY, UINT32_MAX), ICU_OWNER, UINT32_MAX);
+    expect("amend, range", amend(o, COUNTY, 1, cycle, 29), ICU_RANGE, ICU_CYCLE);
+    expect("amend, shared", amend(o, COUNTY, 1, ICU_SHARED_LANE(ICU_NB), 1), ICU_SHARED, ICU_NB);
+    expect("amend, no lane", amend(o, COUNTY, 1, ICU_LANES(4), 0), ICU_NOLANE, 4);
+    o->blocks[ICU_ENTRIES + ICU_CYCLE] = 29;
+    o->sheet[ICU_ICU] = 7;
+    expect("read, a bad block", read_site(o, COUNTY, 1), ICU_RANGE, ICU_CYCLE);
+    expect_cell("sheet after a refusal", o->sheet[ICU_ICU], 7);
+    for (int at = 2; at < ICU_PLACES; at++)
+        o->owners[at] = UINT32_MAX;
+    expect("add, full", add(o, CITY), ICU_FULL, 0);
+    o->entries[ICU_CYCLE] = 29;
+    expect("add, full and a bad entry", add(o, CITY), ICU_RANGE, ICU_CYCLE);
+    expect_cell("place after refusals", o->place, 7);
+}
+
+static void open_study(void)
+{
+    static Open study;
+
+    enter(study.entries);
+    open_sizes(&study);
+    two_offices(&study);
+    open_refusals(&study);
+}
+
 int main(void)
 {
     uint32_t entries[ICU_ENTRIES], sheet[ICU_CELLS], length = 7;
@@ -142,5 +250,6 @@ int main(void)
                 sheet[ICU_LINE(ICU_SB, ICU_LEFT_ADJUSTED)] - 4000);
     expect_cell("option B", sheet[ICU_LINE(ICU_EB, ICU_OPTION_B)], ICU_BLANK);
     diamond();
+    open_study();
     return wrong;
 }

@@ -711,6 +711,88 @@ def diamond(record):
     return west + east + [x for pair in pairs for x in pair] + three + [three.index(best), best, icu, letter(icu)]
 
 
+# ---------------------------------------------------------------- open studies
+
+PLACES = 180
+FREE = 0  # the owner of a place that nobody has
+OPEN_OPENING = b"ICUO"
+OPEN_BYTES = 4 + 4 * PLACES + BLOCK * PLACES
+
+
+def open_sizes(owners, blocks):
+    """Whether both lists of an open study are as long as they must be."""
+    return len(owners) == PLACES and len(blocks) == 81 * PLACES
+
+
+def place_block(blocks, place):
+    """The 81 entries that stand at a place."""
+    return blocks[81 * place:81 * place + 81]
+
+
+def has_site(owners, office, site):
+    """Whether a site of the office's own stands there."""
+    return office != FREE and site < PLACES and owners[site] == office
+
+
+def open_add(owners, blocks, office, entries):
+    """Put the entries at the lowest free place: (number, place) of the answer, and the place they got, or None."""
+    if not open_sizes(owners, blocks) or len(entries) != 81:
+        return (1, 0), None
+    if office == FREE:
+        return (9, 0), None
+    refusal = judge(entries)
+    if refusal != (0, 0):
+        return refusal, None
+    if FREE not in owners:
+        return (10, 0), None
+    place = owners.index(FREE)
+    owners[place] = office
+    blocks[81 * place:81 * place + 81] = entries
+    return (0, 0), place
+
+
+def open_amend(owners, blocks, office, site, entry, value):
+    """Change one entry of a site in its block; (number, place), (0, 0) if accepted."""
+    if not open_sizes(owners, blocks):
+        return (1, 0)
+    if entry > 80:
+        return (2, 0)
+    if not has_site(owners, office, site):
+        return (9, site)
+    entries = place_block(blocks, site)
+    entries[entry] = value
+    refusal = judge(entries)
+    if refusal == (0, 0):
+        blocks[81 * site + entry] = value
+    return refusal
+
+
+def open_read(owners, blocks, office, site, sheet):
+    """Fill the sheet where it stands from a site's block; (number, place), (0, 0) if accepted."""
+    if not open_sizes(owners, blocks) or len(sheet) != 209:
+        return (1, 0)
+    if not has_site(owners, office, site):
+        return (9, site)
+    entries = place_block(blocks, site)
+    refusal = judge(entries)
+    if refusal == (0, 0):
+        sheet[:] = fill(entries)
+    return refusal
+
+
+def open_file(owners, blocks):
+    """The bytes of an open study's file."""
+    return OPEN_OPENING + b"".join(word.to_bytes(4, "little") for word in owners + blocks)
+
+
+def open_lists(data):
+    """The owners and the blocks in a file, or None where it is no open study."""
+    if len(data) != OPEN_BYTES or data[:4] != OPEN_OPENING:
+        return None
+    words = [number_at(data, at) for at in range(4, OPEN_BYTES, 4)]
+    return words[:PLACES], words[PLACES:]
+
+
 # ---------------------------------------------------------------- study file and listing
 
 def number_at(data, at):

@@ -2,8 +2,8 @@
 
     python3 tests/second/programs.py PART
 
-PART is one of: usage, samples, junctions, runs, typed, damaged, studies, amendments, kept, diamond. Programs are taken from target/bin and
-samples from samples/, under the project's root, where this is to be started. The last line counts what was compared.
+PART is one of: usage, samples, junctions, runs, typed, damaged, studies, amendments, kept, diamond, office. Programs are taken from
+target/bin and samples from samples/, under the project's root, where this is to be started. The last line counts what was compared.
 """
 
 import os
@@ -19,14 +19,15 @@ sys.dont_write_bytecode = True  # leave no cache beside the sources
 import diamonds
 import icu2003
 import junctions
+import offices
 import table
 
 BIN = os.path.abspath("target/bin")
 SAMPLES = "samples/table"
 DIAMONDS = "samples/diamond"
+OFFICES = "samples/office"
 NAMES = list(table.TITLES)
 MARK = b"\xef\xbb\xbf"  # a byte-order mark
-WORD_MOST = 4096  # the bytes of an argument
 CHANGES_MOST = 20
 
 
@@ -152,24 +153,13 @@ def named_value(entry, value):
     return [group, kind, table.value_text(kind, value)]
 
 
-def word_taken(word):
-    """An argument as a program takes it: one that is too long, as one of no bytes."""
-    return word if len(word) <= WORD_MOST else b""
-
-
 def one_change(entries, words):
     """The entries after a change that three words ask for, and what is said of it if it is not made."""
-    name, kind, value = (word_taken(word) for word in words)
-    if name.decode("latin-1") not in table.GROUPS:
-        return entries, name + b": no movement, no approach and not the junction has this name\n"
-    entry = table.NAMED.get((name.decode("latin-1"), kind.decode("latin-1")))
-    if entry is None:
-        return entries, kind + b": no entry has this name there\n"
-    changed = list(entries)
     try:
-        changed[entry] = table.value_of(kind.decode(), value)
+        entry, value = table.change_of([table.word_taken(word) for word in words])
     except table.Wrong as wrong:
-        return entries, value + b": " + wrong.args[1].encode() + b"\n"
+        return entries, wrong.args[0] + b": " + wrong.args[1].encode() + b"\n"
+    changed = junctions.changed(entries, {entry: value})
     refusal = icu2003.judge(changed)
     return (changed, b"") if refusal == (0, 0) else (entries, table.refusal_text(*refusal).encode() + b"\n")
 
@@ -253,7 +243,7 @@ def usage(b):
         b.same("words", several_changes(junctions.K1, [word.encode() for word in words])[0], (b"", said))
     out, said = b.run("icuamend", "--help")
     b.same("help", (out, said), (b.run("icuamend")[1], b""))
-    b.same("version", b.run("icuamend", "--version"), (b"icu2003 1.2\n", b""))
+    b.same("version", b.run("icuamend", "--version"), (version(), b""))
     for word in ("0", "2", "x", "", "4294967296"):
         b.same("no site", b.run("icuamend", study, word, "EBQ", "volume", "1"), (b"", word.encode() + b": the study has 1 site\n"))
     b.same("no study", b.run("icuamend", "nothing", "1", "EBQ", "volume", "1"), (b"", b"nothing: cannot be read\n"))
@@ -269,7 +259,7 @@ def usage(b):
         b.same("no study file", b.run("icusheet", text, word), (b"", text.encode() + b": R6: this is no study file\n"))
     for program, more in (("icusheet", ()), ("icustudy", ())):
         b.same("help", b.run(program, "--help"), (b.run(program)[1], b""))
-        b.same("version", b.run(program, "--version"), (b"icu2003 1.2\n", b""))
+        b.same("version", b.run(program, "--version"), (version(), b""))
     for missing in ("nothing", ".", ""):
         b.same("missing", b.run("icusheet", missing), (b"", missing.encode() + b": cannot be read\n"))
     b.same("unwritable", b.run("icustudy", "make", ".", os.path.join(SAMPLES, "k1.txt")), (b"", b".: cannot be written\n"))
@@ -522,7 +512,7 @@ def together(b):
             b.same("stays", b.get("many.icus"), study_of([entries, junctions.K1]))
     # the longest that can be said
     study = b.put("long.icus", study_of([junctions.K1]))
-    words = [b"EBT", b"n" * WORD_MOST, b"1"] * CHANGES_MOST
+    words = [b"EBT", b"n" * table.WORD_MOST, b"1"] * CHANGES_MOST
     wanted = several_changes(junctions.K1, words)[0]
     b.same("longest", b.run("icuamend", study, "1", *words), wanted)
 
@@ -621,6 +611,12 @@ def writes(b):
     b.same("made anew", b.get("other.icus"), study_of([K2]))
 
 
+def nobody():
+    """Without the superuser's rights."""
+    if os.geteuid() == 0:
+        os.setuid(65534)
+
+
 def protected(b):
     """A study that may not be written, in a folder in which files may be made: it stays."""
     writers(b, "in.icus")
@@ -628,7 +624,7 @@ def protected(b):
     os.chmod(b.path("locked.icus"), 0o444)
     os.chmod(b.folder, 0o777)
     try:
-        refused(b, "locked.icus", UNWRITTEN, before=lambda: os.setuid(65534) if os.geteuid() == 0 else None)
+        refused(b, "locked.icus", UNWRITTEN, before=nobody)
     except PermissionError:
         pass  # the superuser may write it, and nobody else can reach the programs
 
@@ -688,13 +684,18 @@ def version():
         return ("icu2003 %s\n" % f.read().split('#define ICU2003_VERSION "')[1].split('"')[0]).encode()
 
 
-def kept(b):
-    """At the table nothing is lost: files in the way, writes and output that fail; and the two programs that read or tell besides."""
-    for part in (targets, writes, protected, outputs, listed, wished):
+def each_apart(b, parts):
+    """Each part in a folder of its own."""
+    for part in parts:
         with tempfile.TemporaryDirectory(dir=b.folder) as folder:
             bench = Bench(folder, part.__name__)
             part(bench)
             b.count += bench.count
+
+
+def kept(b):
+    """At the table nothing is lost: files in the way, writes and output that fail; and the two programs that read or tell besides."""
+    each_apart(b, (targets, writes, protected, outputs, listed, wished))
 
 
 # ---------------------------------------------------------------- diamond interchanges
@@ -705,21 +706,13 @@ DIAMOND_USE = (b"usage: icudiamond WEST EAST WBL EBL EASTBOUND WESTBOUND TRAVEL\
                b"                             between, eastbound and westbound; and the time from one to the other, as 7.1s\n"
                b"       icudiamond --help     prints this, and --version the version\n")
 DIAMOND_KINDS = ("storage",) * 4 + ("travel-time",)
-NO_DIAMOND_TEXT = b"this is a study file: name a junction's text, as icustudy show prints one\n"
-
-
-def said_of_junction(data):
-    """What is said of a file that is no junction's text; None stands for a file that cannot be read."""
-    if data is None:
-        return b"cannot be read\n"
-    return NO_DIAMOND_TEXT if icu2003.study_check(data) == (0, 0) else table.said_of(data).encode()
 
 
 def diamond_run(words, files):
     """What icudiamond prints and says of its seven words; files holds what is in the two that are named first."""
-    words, numbers = [word_taken(word) for word in words], []
+    words, numbers = [table.word_taken(word) for word in words], []
     for name, data in zip(words, files):
-        said = said_of_junction(data)
+        said = table.said_of_junction(data)
         if said:
             return b"", name + b": " + said
     for word, kind in zip(words[2:], DIAMOND_KINDS):
@@ -754,7 +747,7 @@ def diamond_usage(b):
     for words in (["--help", "x"], ["--version", "--help"], ["-h"], ["--help"] * 6, ["x"] * 7 + ["--help"]):
         b.same("usage", b.run("icudiamond", *words), (b"", DIAMOND_USE))
     b.same("help", b.run("icudiamond", "--help"), (DIAMOND_USE, b""))
-    b.same("version", b.run("icudiamond", "--version"), (b"icu2003 1.2\n", b""))
+    b.same("version", b.run("icudiamond", "--version"), (version(), b""))
     b.same("seven wishes", b.run("icudiamond", *["--help"] * 7), (b"", b"--help: cannot be read\n"))
     b.put("k1.txt", table.write_text(junctions.K1).encode())
     for words in (["k1.txt", "k1.txt", "9", "9", "9", "9", "7s"], ["--help"], ["--version"]):
@@ -856,8 +849,331 @@ def diamond(b):
         part(b)
 
 
+# ---------------------------------------------------------------- offices in an open study
+
+# Where not even the lock can be made.
+NOWHERE = ("missing/new.icuo", "k1.txt/new.icuo", "/proc/new.icuo", "n" * 251, "./" * 2043 + "new.icuo")
+STRANGE_NUMBERS = (b"0", b"00", b"", b"x", b"-1", b"+1", b" 1", b"1 ", b"1.0", b"1s", b"0x1", b"1\n", b"1,2", b"one", b"\xff", b"\xd9\xa1", b"--help",
+                   b"4294967296", b"18446744073709551617", b"9" * 30, b"n" * 4096, b"0" * 4097, b"0" * 5000 + b"1")
+
+
+def stood_at(b, name, **how):
+    """What stands in the folder where a study is named."""
+    path = b.path(name)
+    data = b.get(name) if os.path.isfile(path) else None
+    closed = data is None and os.path.lexists(path)
+    found = {"data": data, "link": os.path.islink(path), "closed": closed, "locked": os.path.lexists(path + ".lock")}
+    return offices.Stood(**{**found, **how})
+
+
+def differing(got, wanted):
+    """Where two files differ, number by number; of files of unlike lengths, the lengths."""
+    if got == wanted:
+        return []
+    if got is None or wanted is None or len(got) != len(wanted):
+        return [data if data is None else len(data) for data in (got, wanted)]
+    return [(at, got[at:at + 4], wanted[at:at + 4]) for at in range(0, len(got), 4) if got[at:at + 4] != wanted[at:at + 4]]
+
+
+def all_stays(b, was, now=None):
+    """The names of what is no longer as it was in the folder: none."""
+    now = b.held() if now is None else now
+    b.same("all stays", sorted(name for name in now.keys() | was.keys() if (name in now, now.get(name)) != (name in was, was.get(name))), [])
+
+
+def text_at(b, words):
+    """What is in the file that the last of four words names."""
+    name = os.fsdecode(words[-1])
+    return b.get(name) if len(words) == 4 and os.path.isfile(b.path(name)) else None
+
+
+def office_is(b, what, words, **how):
+    """A call in the folder: it prints and says what is expected, writes the study that is, and leaves all else as it was."""
+    words = [word if isinstance(word, bytes) else word.encode() for word in words]
+    name, was = table.word_taken(words[0]).decode(), b.held()
+    out, said, written = offices.run(words, stood_at(b, name, **how), text_at(b, words))
+    b.same("%s %r" % (what, words[1:]), b.run_so(0, "icuoffice", words), (out, said))
+    now = b.held()
+    before = was.pop(name, None)
+    b.same("study after %s %r" % (what, words[1:]), differing(now.pop(name, None), before if written is None else written), [])
+    all_stays(b, was, now)
+
+
+def put_texts(b):
+    """Two texts to add; a study to add them to."""
+    for name in ("k1", "k2"):
+        b.put(name + ".txt", offices.sample_text(name))
+    b.put("s.icuo", icu2003.open_file(*offices.any_study(b.rng, (1, 2), [junctions.K1, K2])))
+
+
+def fresh_study(b, sites=()):
+    """A study s.icuo of these (office, entries)."""
+    owners, blocks = [0] * 180, [0] * 14580
+    for office, entries in sites:
+        assert icu2003.open_add(owners, blocks, office, entries)[0] == (0, 0)
+    b.put("s.icuo", icu2003.open_file(owners, blocks))
+
+
+def office_usage(b):
+    """Words that ask for nothing; help and version, also beside a lock that stands; and names that look like them."""
+    put_texts(b)
+    b.put("s.icuo.lock", b"")
+    for words in ([], ["s.icuo"], ["new"], ["-h"], ["s.icuo", "New"], ["s.icuo", "1"], ["s.icuo", "1", "add"], ["s.icuo", "1", "read"],
+                  ["s.icuo", "1", "new", "1"], ["s.icuo", "add", "1", "k1.txt"], ["s.icuo", "1", "amend", "1"], ["s.icuo", "1", "list", "1"],
+                  ["s.icuo", "1", "add", "k1.txt", "k2.txt"], ["s.icuo", "1", "read", "1", "2"], ["s.icuo", "1", "amend", "1", "EBT"],
+                  ["s.icuo", "1", "amend", "1", "EBT", "volume"], ["s.icuo", "1", "amend", "1", "EBT", "volume", "1", "2"],
+                  ["s.icuo", "1", "add", "1", "EBT", "volume", "1"], ["s.icuo", "1", "read", "1", "EBT", "volume", "1"], ["s.icuo"] * 100,
+                  ["--help", "x"], ["--version", "--help"], ["--help"] * 4, ["--help"] * 7, ["s.icuo", "new" + " " * 5000], ["new", "s.icuo"]):
+        b.same("usage", b.run_so(0, "icuoffice", words), (b"", offices.USE))
+        b.same("no job", offices.run([word.encode() for word in words], offices.Stood())[1], offices.USE)
+    b.same("help", b.run_so(0, "icuoffice", ["--help"]), (offices.USE, b""))
+    b.same("version", b.run_so(0, "icuoffice", ["--version"]), (version(), b""))
+    for words in (["--help", "new"], ["--version", "new"], ["--help", "1", "add", "k1.txt"], ["--help", "1", "read", "1"],
+                  ["--help", "1", "amend", "1", "EBL", "volume", "140"]):
+        office_is(b, "a study by that name", words)
+
+
+def office_samples(b):
+    """The sample as the repository holds it, and its calls one after the other."""
+    made = b.path("made")
+    offices.main(made)
+    names = sorted(os.listdir(made))
+    b.same("files of the sample", sorted(os.listdir(OFFICES)), names)
+    for name in names:
+        with open(os.path.join(OFFICES, name), "rb") as f:
+            b.same(name, f.read(), b.get(os.path.join("made", name)))
+    os.makedirs(b.path(SAMPLES))
+    for name in offices.TEXTS:
+        with open(os.path.join(SAMPLES, name + ".txt"), "rb") as f:
+            b.put(os.path.join(SAMPLES, name + ".txt"), f.read())
+    for name, words, out, said, study in offices.sample_calls():
+        b.same(name, b.run_so(0, "icuoffice", words), (out, said))
+        b.same("study after " + name, differing(b.get(offices.STUDY), study), [])
+
+
+def office_new(b):
+    """What can stand where a study is to be made, or worked on."""
+    put_texts(b)
+    for name in ("fresh.icuo", "a b", "Stra\xdfe", "n" * 250, "x\x1b[31m", "new\nline", "--help"):
+        office_is(b, "new", [name, "new"])
+        b.same("rights", os.stat(b.path(name)).st_mode & 0o777, 0o666 & ~umask())
+        office_is(b, "first add", [name, "1", "add", "k1.txt"])
+        office_is(b, "first read", [name, "1", "read", "1"])
+        b.same("rights", os.stat(b.path(name)).st_mode & 0o777, 0o666 & ~umask())
+    for name, data in (("there", b""), ("text", b.get("k1.txt")), ("good", b.get("s.icuo"))):
+        b.put(name, data)
+    for name, text in (("to-study", "s.icuo"), ("to-text", "k1.txt"), ("to-nothing", "nowhere"), ("to-itself", "to-itself")):
+        os.symlink(text, b.path(name))
+    os.mkdir(b.path("folder"))
+    os.mkfifo(b.path("pipe"))
+    for name in ("there", "text", "good", "to-study", "to-text", "to-nothing", "to-itself", "folder", "folder/", ".", "pipe", "", "n" * 4097,
+                 "missing") + NOWHERE:
+        # no file, and so no lock, has a name of no bytes; a word that is too long is taken as one
+        how = {"lockable": False} if name in NOWHERE + ("", "n" * 4097) else {}
+        if name != "missing":
+            office_is(b, "no new", [name, "new"], **how)
+        for words in (["1", "add", "k1.txt"], ["0", "add", "k1.txt"], ["1", "add", "nothing"], ["2", "amend", "1", "EBL", "volume", "90"],
+                      ["x", "amend", "1", "EBQ", "volume", "90"]):
+            office_is(b, "changed where it cannot be", [name] + words, **how)
+        if name != "pipe":
+            office_is(b, "read", [name, "1", "read", "1"], **how)
+            office_is(b, "read by none", [name, "0", "read", "1"], **how)
+    b.same("nothing left", os.listdir(b.path("folder")), [])
+
+
+def site_word(rng, owners, office):
+    """A site as it is typed: mostly one of the office's own, else any, or a word that is none."""
+    own = [place for place, owner in enumerate(owners) if owner == office]
+    if own and rng.random() < 0.75:
+        return b"%d" % (rng.choice(own) + 1)
+    return rng.choice((b"%d" % rng.randint(1, 180), b"0", b"181", b"4294967295", b"%03d" % rng.randint(1, 180), rng.choice(STRANGE_NUMBERS)))
+
+
+def office_step(b, office):
+    """One call of an office, whatever it asks for."""
+    rng, word = b.rng, b"%d" % office
+    owners = icu2003.open_lists(b.get("s.icuo"))[0]
+    job = rng.choice(("add", "add", "amend", "amend", "amend", "read", "read"))
+    if job == "add":
+        text = loosely(rng, fair(rng)) if rng.random() < 0.8 else offices.sample_text("k2")
+        b.put("t.txt", damaged(rng, text) if rng.random() < 0.15 else text)
+        office_is(b, "add", ["s.icuo", word, job, "t.txt"])
+    else:
+        site = site_word(rng, owners, office)
+        office_is(b, job, ["s.icuo", word, job, site] + (three_words(rng) if job == "amend" else []))
+
+
+def office_runs(b):
+    """Three offices by turns, in studies of any history: after each call every number of the study is as it should be."""
+    for history in range(14):
+        numbers = [1, 2, 3] if history % 2 else [b.rng.randrange(1, 2**32), 2**32 - 1, 180]
+        blocks = [fair(b.rng) for _ in range(3)] + [junctions.K1, likely(b.rng), [0] * 81, [b.rng.randrange(2**32) for _ in range(81)]]
+        if history < 4:
+            fresh_study(b)
+        else:
+            b.put("s.icuo", icu2003.open_file(*offices.any_study(b.rng, numbers, blocks)))
+        for _ in range(45):
+            office_step(b, b.rng.choice(numbers))
+
+
+def office_full(b):
+    """The last free places, and none: a bad text is told of before a full study."""
+    put_texts(b)
+    owners, blocks = [7] * 180, junctions.K1 * 180
+    for free in ([0], [179], [17, 178], []):
+        b.put("s.icuo", icu2003.open_file([0 if place in free else owner for place, owner in enumerate(owners)], blocks))
+        b.put("bad.txt", b"junction cycle 29")
+        for text in ("bad.txt", "k2.txt", "k1.txt", "nothing", "bad.txt", "k1.txt"):
+            office_is(b, "nearly full", ["s.icuo", "4294967295", "add", text])
+        for site in (b"1", b"18", b"179", b"180"):
+            office_is(b, "what was added", ["s.icuo", "4294967295", "read", site])
+
+
+def office_studies(b):
+    """Files that are no open study, and studies of any numbers."""
+    put_texts(b)
+    whole = icu2003.open_file([1, 0, 2] + [0] * 177, junctions.K1 * 180)
+    for data in (b"", b"ICUO", whole[:-1], whole + b"\0", whole[:4], b"ICUS" + whole[4:], b"icuo" + whole[4:], MARK + whole, whole[4:], whole * 2,
+                 study_of([junctions.K1]), study_of([junctions.K1] * 180), b"\0" * len(whole), b.get("k1.txt"), b"x" * 200000):
+        b.put("s.icuo", data)
+        for words in (["1", "add", "k1.txt"], ["1", "add", "nothing"], ["1", "amend", "1", "EBL", "volume", "90"], ["1", "read", "1"], ["0", "read", "1"]):
+            office_is(b, "no open study", ["s.icuo"] + words)
+    for _ in range(60):
+        data = bytearray(whole)
+        for _ in range(b.rng.choice((1, 1, 3))):
+            at = b.rng.choice((0, 4 * b.rng.randrange(1, 4), 724 + 4 * b.rng.randrange(81), b.rng.randrange(len(data) - 4)))
+            data[at:at + 4] = b.rng.choice((0, 1, 2, 7, 2**32 - 1, b.rng.randrange(2**32), b.rng.randrange(300))).to_bytes(4, "little")
+        b.put("s.icuo", bytes(data))
+        for words in (["1", "read", "1"], ["2", "read", "3"], ["1", "amend", "1", "EBT", "volume", "450"], ["2", "add", "k2.txt"], ["2", "read", "2"]):
+            office_is(b, "any numbers", ["s.icuo"] + words)
+
+
+def office_words(b):
+    """Words that are no office's number, no site and no change, alone and together; the first of them in order is spoken of."""
+    put_texts(b)
+    fresh_study(b, [(1, junctions.K1), (2, K2)])
+    change = ["EBT", "volume", "450"]
+    for word in STRANGE_NUMBERS + (b"1", b"01", b"4294967295"):
+        for rest in (["add", "nothing"], ["read", "1"], ["amend", "1"] + change, ["amend", "2", "EBQ", "volumes", "x"]):
+            office_is(b, "office", ["s.icuo", word] + rest)
+    for word in STRANGE_NUMBERS + (b"1", b"2", b"3", b"001", b"180", b"181", b"4294967295", b"all"):
+        for rest in (["read", word], ["amend", word] + change, ["amend", word, "EBQ", "volume", "1"], ["amend", word, "EBT", "lanes", "0"]):
+            office_is(b, "site", ["s.icuo", "1"] + rest)
+    for words, _ in SAID_OF_CHANGES:
+        for site in ("1", "2", "0"):
+            office_is(b, "change", ["s.icuo", "1", "amend", site] + list(words))
+    for _ in range(60):
+        office_is(b, "changes", ["s.icuo", "1", "amend", b.rng.choice(("1", "1", "2"))] + three_words(b.rng))
+
+
+def office_texts(b):
+    """Texts that are none, also the study itself and files of studies."""
+    put_texts(b)
+    fresh_study(b)
+    texts = [table.write_text(junctions.K1).encode(), offices.sample_text("k2")]
+    for data in (b"", study_of([]), study_of([junctions.K1, K2]), study_of([K2])[:-1], MARK + texts[1], b"x" * 66000, b" " * 65536, b" " * 200000,
+                 b"junction cycle 29", b"EBL volume 5", b"EB shared-lane 1", texts[0] + b"lanes", b"title x", bytes(range(256))):
+        b.put("t.txt", data)
+        for study in ("s.icuo", "k1.txt"):
+            office_is(b, "text", [study, "1", "add", "t.txt"])
+    for name in ("nothing", ".", "", "k1.txt/x", "s.icuo", "n" * 5000):
+        office_is(b, "no text", ["s.icuo", "2", "add", name])
+    for _ in range(80):
+        b.put("t.txt", damaged(b.rng, b.rng.choice(texts)))
+        office_is(b, "damaged text", ["s.icuo", "3", "add", "t.txt"])
+
+
+CHANGING = (["new.icuo", "new"], ["s.icuo", "1", "add", "k2.txt"], ["s.icuo", "1", "amend", "1", "EBL", "volume", "90"], ["s.icuo", "new"],
+            ["s.icuo", "0", "add", "nothing"], ["s.icuo", "2", "amend", "1", "EBQ", "volume", "90"], ["nothing.icuo", "1", "add", "k2.txt"])
+
+
+def office_locks(b):
+    """A lock that stands in the way, whatever it is; reads go on beside it."""
+    put_texts(b)
+    fresh_study(b, [(1, junctions.K1)])
+    locks = [b.path(name + ".lock") for name in ("s.icuo", "new.icuo", "nothing.icuo")]
+    for make, remove in ((os.mknod, os.remove), (os.mkfifo, os.remove), (os.mkdir, os.rmdir), (lambda lock: os.symlink("nowhere", lock), os.remove),
+                         (lambda lock: os.symlink("k1.txt", lock), os.remove)):
+        for lock in locks:
+            make(lock)
+        for words in CHANGING:
+            office_is(b, "locked", words)
+        office_is(b, "read", ["s.icuo", "1", "read", "1"])
+        for lock in locks:
+            remove(lock)
+    office_is(b, "unlocked", CHANGING[1])
+
+
+def office_writes(b):
+    """Writes that fail and that are ended midway; output that is full or closed: the study stays as it was."""
+    put_texts(b)
+    fresh_study(b, [(1, junctions.K1)])
+    for words in CHANGING[:3]:
+        was, study = b.held(), words[0].encode()
+        b.same("write fails", b.run_so(0, "icuoffice", words, before=limited), (b"", study + UNWRITTEN))
+        all_stays(b, was)
+        b.same("ended", b.run_so(-signal.SIGXFSZ, "icuoffice", words, before=ended)[0], b"")
+        now = b.held()
+        b.same("lock left", len(now.pop(words[0] + ".lock", b"")), 100)
+        all_stays(b, was, now)
+        office_is(b, "left locked", words)
+        os.remove(b.path(words[0] + ".lock"))
+    for words in CHANGING[1:3] + (["s.icuo", "1", "read", "1"], ["--help"], ["--version"]):
+        was = b.held()
+        with open("/dev/full", "wb") as full:
+            b.same("full", b.run_so(0, "icuoffice", words, out=full), (b"", b"icuoffice" + NO_OUTPUT))
+        b.same("closed", b.run_so(0, "icuoffice", words, before=lambda: os.close(1), out=None), (b"", b"icuoffice" + NO_OUTPUT))
+        all_stays(b, was)
+    # nothing to print: a study is made all the same
+    b.same("made", b.run_so(0, "icuoffice", CHANGING[0], before=lambda: os.close(1), out=None), (b"", b""))
+    office_is(b, "made study", ["new.icuo", "1", "add", "k1.txt"])
+
+
+def office_rights(b):
+    """A study that may not be written, and a folder in which no lock can be made: all stays."""
+    put_texts(b)
+    fresh_study(b, [(1, junctions.K1)])
+    os.chmod(b.path("s.icuo"), 0o444)
+    try:
+        for rights in (0o777, 0o555):
+            os.chmod(b.folder, rights)
+            for words in CHANGING[1:3]:
+                was = b.held()
+                b.same("no rights", b.run_so(0, "icuoffice", words, before=nobody), (b"", b"s.icuo" + UNWRITTEN))
+                all_stays(b, was)
+            page = offices.run([b"s.icuo", b"1", b"read", b"1"], stood_at(b, "s.icuo"))[0]
+            b.same("read all the same", b.run_so(0, "icuoffice", ["s.icuo", "1", "read", "1"], before=nobody), (page, b""))
+    except PermissionError:
+        pass  # the superuser may write it, and nobody else can reach the programs
+    os.chmod(b.folder, 0o755)
+
+
+def office_race(b):
+    """Eight offices at once: each add is made whole or refused for the lock, and every site that was printed is there."""
+    put_texts(b)
+    for _ in range(12):
+        fresh_study(b)
+        runs = [subprocess.Popen([os.path.join(BIN, "icuoffice"), "s.icuo", str(office), "add", "k1.txt"], stdout=subprocess.PIPE,
+                                 stderr=subprocess.PIPE, cwd=b.folder) for office in range(1, 9)]
+        got, wanted = [run.communicate(timeout=60) for run in runs], [0] * 180
+        for office, (out, said) in enumerate(got, 1):
+            b.same("said", said, b"" if out else b"s.icuo.lock: " + offices.LOCKED + b"\n")
+            if out:
+                wanted[int(out.split()[1]) - 1] = office
+        count = sum(1 for out, _ in got if out)
+        b.same("sites in turn", [bool(owner) for owner in wanted], [True] * count + [False] * (180 - count))
+        b.same("study", differing(b.get("s.icuo"), icu2003.open_file(wanted, junctions.K1 * count + [0] * 81 * (180 - count))), [])
+        b.same("no lock", "s.icuo.lock" in os.listdir(b.folder), False)
+
+
+def office(b):
+    """icuoffice: what it prints and says, and the study after each call."""
+    each_apart(b, (office_usage, office_samples, office_new, office_runs, office_full, office_studies, office_words, office_texts, office_locks,
+                   office_writes, office_rights, office_race))
+
+
 PARTS = {"usage": usage, "samples": samples, "junctions": named, "runs": runs, "typed": typed, "damaged": damaged_texts, "studies": studies,
-         "amendments": amendments, "kept": kept, "diamond": diamond}
+         "amendments": amendments, "kept": kept, "diamond": diamond, "office": office}
 
 
 def main(part):

@@ -17,6 +17,7 @@ sys.dont_write_bytecode = True  # leave no cache beside the sources
 import diamonds
 import icu2003
 import junctions
+import offices
 import table
 from icu2003 import BLANK, amend, beside, cell, decay, fill, judge, letter, listing, reach
 
@@ -846,6 +847,265 @@ def check_pages():
             check("plans of " + name, [row[35:].replace(" ", "") for row in rows[55:58]], plans)
 
 
+# ---------------------------------------------------------------- open studies
+#
+# The same once more, as a story: each place is free or has an owner, the entries it began with and its accepted changes.
+
+OPEN_ORDER = (1, 2, 9, 3, 4, 5, 10)
+
+
+def story_entries(site):
+    """What stands at a taken place: the starting entries with the changes made in order."""
+    _, entries, changes = site
+    for change in changes:
+        entries = junctions.changed(entries, change)
+    return list(entries)
+
+
+def first_refusal(found):
+    """The first in the order of the checks, at its lowest place."""
+    return min(found, key=lambda refusal: (OPEN_ORDER.index(refusal[0]), refusal[1]), default=(0, 0))
+
+
+def story_add(story, office, entries):
+    """The answer to an add, which begins a site."""
+    found = again_refusals(entries) if len(entries) == 81 else [(1, 0)]
+    found += [(9, 0)] if office == 0 else []
+    found += [(10, 0)] if all(story) else []
+    answer = first_refusal(found)
+    if answer == (0, 0):
+        story[min(place for place in range(180) if not story[place])] = (office, list(entries), [])
+    return answer
+
+
+def story_own(story, office, site):
+    """The site, if it is one of the office's own."""
+    owned = {place: taken for place, taken in enumerate(story) if taken and taken[0] == office}
+    return owned.get(site) if office else None
+
+
+def story_amend(story, office, site, entry, value):
+    """The answer to an amendment, which is one more change of a site."""
+    own = story_own(story, office, site)
+    found = [(2, 0)] if entry > 80 else []
+    found += [(9, site)] if own is None else []
+    if not found:
+        found = again_refusals(junctions.changed(story_entries(own), {entry: value}))
+    if not found:
+        own[2].append({entry: value})
+    return first_refusal(found)
+
+
+def story_read(story, office, site):
+    """The answer to a read, and the sheet."""
+    own = story_own(story, office, site)
+    answer = first_refusal([(9, site)] if own is None else again_refusals(story_entries(own)))
+    return answer, fill(story_entries(own)) if answer == (0, 0) else None
+
+
+def bad_or_good(rng):
+    """Entries that are acceptable or a little wrong."""
+    entries = random_entries(rng)
+    for _ in range(rng.choice((0, 0, 0, 1, 2))):
+        entry = rng.randrange(81)
+        entries[entry] = rng.choice((0, 1, 7, BLANK, pick_value(rng, entry)))
+    return entries
+
+
+def open_step(rng, story, lists, office):
+    """One step of an office in the lists and in the story: both answers and both sheets."""
+    own = [place for place, taken in enumerate(story) if taken and taken[0] == office]
+    site = rng.choice(own) if own and rng.random() < 0.7 else rng.choice((rng.randrange(180), 180, 181, BLANK))
+    job = rng.randrange(4)
+    if job == 0:
+        entries = bad_or_good(rng)[:rng.choice((81, 81, 81, 80))]
+        return icu2003.open_add(*lists, office, entries)[0], story_add(story, office, entries), None, None
+    if job < 3:
+        entry = rng.choice((rng.randrange(81), rng.randrange(81), rng.randrange(81), 81, BLANK))
+        value = rng.choice((pick_value(rng, entry), rng.randrange(BLANK + 1))) if entry < 81 else 0
+        return icu2003.open_amend(*lists, office, site, entry, value), story_amend(story, office, site, entry, value), None, None
+    sheet = [7] * 209
+    answer, wanted = story_read(story, office, site)
+    return icu2003.open_read(*lists, office, site, sheet), answer, sheet, wanted or [7] * 209
+
+
+def places_of(owners, blocks):
+    """The owner and the block of each place."""
+    return [(owner, icu2003.place_block(blocks, place)) for place, owner in enumerate(owners)]
+
+
+def check_step(rng, story, lists, office):
+    """A step of an office: the lists and the story agree after it, and no place has moved but its own or the lowest free one."""
+    before = places_of(*lists)
+    got, wanted, sheet, fresh = open_step(rng, story, lists, office)
+    check("answer to an office", got, wanted)
+    check("sheet read", sheet, fresh)
+    after = places_of(*lists)
+    free = [place for place, (owner, _) in enumerate(before) if owner == 0]
+    moved = [place for place in range(180) if before[place] != after[place]]
+    check("one place moves at most, and none on a refusal", len(moved) <= int(got == (0, 0)), True)
+    check("another's place", [place for place in moved if before[place][0] != office and place not in free[:1]], [])
+    check("owners by the story", lists[0], [taken[0] if taken else 0 for taken in story])
+    check("blocks by the story", [after[place][1] for place in range(180) if story[place]], [story_entries(taken) for taken in story if taken])
+    return got[0]
+
+
+def check_offices(rounds):
+    """Runs of several offices in studies of any history."""
+    rng, seen = random.Random(180), set()
+    for _ in range(rounds // 12):
+        numbers = rng.choice(([1, 2], [1, 2, 3], [BLANK, 5], [rng.randrange(1, BLANK) for _ in range(4)]))
+        lists = offices.any_study(rng, numbers, [bad_or_good(rng) for _ in range(6)] + [[BLANK] * 81])
+        story = [(owner, block, []) if owner else None for owner, block in places_of(*lists)]
+        seen |= {check_step(rng, story, lists, rng.choice(numbers + [0])) for _ in range(25)}
+    check("every answer came up", seen, {0, 1, 2, 3, 4, 5, 9, 10})
+
+
+def others_changed(rng, owners, blocks, office):
+    """A study that differs in what is another's or free, and not in what an office may learn: its own sites and the lowest free place."""
+    owners, blocks = list(owners), list(blocks)
+    lowest = owners.index(0) if 0 in owners else 180
+    for place in range(180):
+        if owners[place] == office:
+            continue
+        blocks[81 * place:81 * place + 81] = [rng.randrange(BLANK + 1)] * 81
+        if place != lowest:
+            stranger = rng.choice([number for number in (1, 2, 3, BLANK) if number != office])
+            owners[place] = rng.choice((0, stranger)) if place > lowest else stranger
+    return owners, blocks
+
+
+def check_told(rounds):
+    """An office's answers, and what it reads, are the same whatever the others have."""
+    rng = random.Random(9)
+    for _ in range(rounds // 4):
+        office = rng.choice((1, 2, BLANK))
+        one = offices.any_study(rng, [1, 2, BLANK], [bad_or_good(rng) for _ in range(4)])
+        other = others_changed(rng, *one, office)
+        entries, site, entry = bad_or_good(rng), rng.choice((rng.randrange(180), BLANK)), rng.randrange(82)
+        told = []
+        for owners, blocks in (one, other):
+            sheet = [7] * 209
+            answers = [icu2003.open_read(owners, blocks, office, site, sheet), icu2003.open_amend(owners, blocks, office, site, entry, 100),
+                       icu2003.open_add(owners, blocks, office, entries)]
+            told.append((answers, sheet, [icu2003.place_block(blocks, place) for place in range(180) if owners[place] == office]))
+        check("what an office is told", told[0], told[1])
+
+
+BAD_CYCLE = junctions.changed(junctions.K1, {80: 29})
+
+
+def shared_study():
+    """Office 3 at the first place, 4 at the third, all others free; K1 at every place."""
+    return [3, 0, 4] + [0] * 177, junctions.K1 * 180
+
+
+def check_open_adds():
+    """Each refusal of an add, and each before those that come after it; the lowest place."""
+    add, full = icu2003.open_add, [3] * 180
+    (owners, blocks), kept = shared_study(), shared_study()
+    for what, got, wanted in (
+            ("179 owners", add(owners[1:], blocks, 0, BAD_CYCLE), (1, 0)), ("181 owners", add(owners + [0], blocks, 0, BAD_CYCLE), (1, 0)),
+            ("179 blocks", add(owners, blocks[81:], 0, BAD_CYCLE), (1, 0)), ("a number too many", add(owners, blocks + [0], 3, BAD_CYCLE), (1, 0)),
+            ("80 entries", add(owners, blocks, 0, BAD_CYCLE[:80]), (1, 0)), ("no office", add(owners, blocks, 0, BAD_CYCLE), (9, 0)),
+            ("no office, full", add(full, blocks, 0, junctions.K1), (9, 0)), ("range, full", add(full, blocks, 3, BAD_CYCLE), (3, 80)),
+            ("shared, full", add(full, blocks, 3, NAMED["shared lane beside a left lane"]), (4, 1)),
+            ("no lane, full", add(full, blocks, 3, NAMED["lefts without a lane"]), (5, 3)), ("full", add(full, blocks, 3, junctions.K1), (10, 0))):
+        check("add, " + what, got, (wanted, None))
+    check("nothing added", (owners, blocks), kept)
+    check("lowest free place", add(owners, blocks, BLANK, NAMED["K2"]), ((0, 0), 1))
+    check("what stands there", (owners, blocks), ([3, BLANK, 4] + [0] * 177, junctions.K1 + NAMED["K2"] + junctions.K1 * 178))
+    check("the next", add(owners, blocks, 3, NAMED["K2"]), ((0, 0), 3))
+
+
+def check_open_amendments():
+    """Each refusal of an amendment, and each before those that come after it."""
+    amending = icu2003.open_amend
+    (owners, blocks), kept = shared_study(), shared_study()
+    for what, got, wanted in (
+            ("179 owners", amending(owners[1:], blocks, 0, 180, 81, 0), (1, 0)), ("a number too few", amending(owners, blocks[1:], 0, 180, 81, 0), (1, 0)),
+            ("entry 81", amending(owners, blocks, 0, 180, 81, 0), (2, 0)), ("no office", amending(owners, blocks, 0, 1, 80, 29), (9, 1)),
+            ("no office and no place", amending(owners, blocks, 0, 180, 80, 29), (9, 180)), ("another's", amending(owners, blocks, 3, 2, 80, 29), (9, 2)),
+            ("a free place", amending(owners, blocks, 3, 1, 80, 29), (9, 1)), ("no such place", amending(owners, blocks, 3, 180, 80, 29), (9, 180)),
+            ("the largest number", amending(owners, blocks, 3, BLANK, 80, 29), (9, BLANK)), ("range", amending(owners, blocks, 4, 2, 80, 29), (3, 80)),
+            ("shared", amending(owners, blocks, 4, 2, 65, 1), (4, 1)), ("no lane", amending(owners, blocks, 4, 2, 50, 0), (5, 10))):
+        check("amend, " + what, got, wanted)
+    check("nothing amended", (owners, blocks), kept)
+    check("amended", (amending(owners, blocks, 4, 2, 80, 90), owners), ((0, 0), kept[0]))
+    check("one number", [at for at in range(14580) if blocks[at] != kept[1][at]], [162 + 80])
+
+
+def check_open_reads():
+    """Reads that are refused leave the sheet; a bad block is judged within itself, and an amendment may put it right."""
+    reading, sheet = icu2003.open_read, [7] * 209
+    owners, blocks = shared_study()
+    blocks[162:243] = BAD_CYCLE
+    for what, got, wanted in (
+            ("179 owners", reading(owners[1:], blocks, 0, 180, sheet), (1, 0)), ("a number too few", reading(owners, blocks[1:], 0, 180, sheet), (1, 0)),
+            ("208 cells", reading(owners, blocks, 0, 180, sheet[1:]), (1, 0)), ("no office", reading(owners, blocks, 0, 1, sheet), (9, 1)),
+            ("another's", reading(owners, blocks, 3, 2, sheet), (9, 2)), ("a free place", reading(owners, blocks, 3, 1, sheet), (9, 1)),
+            ("no such place", reading(owners, blocks, 3, 181, sheet), (9, 181)), ("a bad block", reading(owners, blocks, 4, 2, sheet), (3, 80))):
+        check("read, " + what, got, wanted)
+    check("sheet as it was", sheet, [7] * 209)
+    check("another entry of a bad block", icu2003.open_amend(owners, blocks, 4, 2, 1, 90), (3, 80))
+    check("put right", icu2003.open_amend(owners, blocks, 4, 2, 80, 90), (0, 0))
+    check("read then", (reading(owners, blocks, 4, 2, sheet), sheet), ((0, 0), fill(junctions.changed(BAD_CYCLE, {80: 90}))))
+    check("read by the other", (reading(owners, blocks, 3, 0, sheet), sheet), ((0, 0), sheet_of("K1")))
+
+
+def check_open_files():
+    rng = random.Random(59044)
+    lists = offices.any_study(rng, [1, 2, BLANK], [[rng.randrange(BLANK + 1) for _ in range(81)] for _ in range(9)])
+    data = icu2003.open_file(*lists)
+    check("bytes of an open study", (len(data), data[:4]), (59044, b"ICUO"))
+    check("there and back", icu2003.open_lists(data), lists)
+    for other in (data[:-1], data + b"\0", b"ICUS" + data[4:], b"", data[:4], study(junctions.K1)):
+        check("no open study", icu2003.open_lists(other), None)
+    check("no study file", icu2003.study_check(data), (6, 0))
+
+
+def check_sample_offices():
+    """The two offices of the sample: each reads its own, and the county's amendment of the city's site is refused."""
+    calls = {name: (out, said) for name, _, out, said, _ in offices.sample_calls()}
+    for name, wanted in (("1-new", (b"", b"")), ("2-city-adds", (b"site 1\n", b"")), ("3-county-adds", (b"site 2\n", b"")),
+                         ("5-county-amends", (b"", b"1: R9: the office has no site there\n"))):
+        check("sample " + name, calls[name], wanted)
+    city = junctions.changed(junctions.K1, {1: 140})
+    for name, site, entries in (("6-city-reads", 1, city), ("7-county-reads", 2, NAMED["K2"])):
+        check("sample " + name, calls[name], (b"town.icuo, site %d of 180\n\n" % site + table.sheet_text(fill(entries)).encode(), b""))
+    check("sample 4-city-amends", calls["4-city-amends"], (table.change_text(sheet_of("K1"), fill(city)).encode(), b""))
+
+
+def check_office_words():
+    """What is said of the words of icuoffice, the first that is wrong."""
+    def said(words, **stood):
+        return offices.run([word.encode() for word in words.split()], offices.Stood(**stood))[1].decode()
+
+    data = icu2003.open_file([1] * 180, junctions.K1 * 180)
+    amending = "s 1 amend 1 EBT volume 450"
+    for words, stood, wanted in (
+            ("s new", {"data": b""}, "s: there is such a file, which stays as it is: name another\n"),
+            ("s new", {"link": True, "data": b""}, "s: this is a symbolic link, which stays as it is: name its file\n"),
+            ("s new", {"closed": True}, "s: cannot be written\n"), ("s new", {}, ""), (amending, {"data": data}, ""),
+            (amending, {}, "s: no open study stands here: icuoffice STUDY new makes one where there is no file\n"),
+            (amending, {"data": data, "locked": True}, "s.lock: stands while somebody changes the study: try again, or remove it if nobody is at work\n"),
+            (amending, {"lockable": False}, "s: cannot be written\n"), ("s 1 read 1", {"data": data, "link": True, "locked": True}, ""),
+            ("s 0 amend 0 EBQ x y", {"closed": True}, "0: an office has a number, from 1 to 4294967295\n"),
+            ("s 4294967296 read 1", {}, "4294967296: an office has a number, from 1 to 4294967295\n"), ("s 1 read 1", {}, "s: cannot be read\n"),
+            ("s 2 amend 0 EBQ x y", {"data": data}, "EBQ: no movement, no approach and not the junction has this name\n"),
+            ("s 2 amend 0 EBT x y", {"data": data}, "x: no entry has this name there\n"),
+            ("s 2 amend 0 EBT lost-time 4", {"data": data}, "4: a time is written with its unit, as 4s, 4.5s or 4000ms\n"),
+            ("s 2 amend 1 EBT volume 99999", {"data": data}, "1: R9: the office has no site there\n"),
+            ("s 1 amend 1 EBT volume 99999", {"data": data}, "1: R3: EBT volume is outside 0 to 9999\n"),
+            ("s 1 amend 1 EBL lanes 0", {"data": data}, "1: R5: EBL: vehicles, and no lane that takes them\n"),
+            ("s 1 read 181", {"data": data}, "181: R9: the office has no site there\n"),
+            ("s 1 read x", {"data": data}, "x: R9: the office has no site there\n"),
+            ("s 1 add t", {"data": data}, "t: cannot be read\n")):
+        check("said of " + words, said(words, **stood), wanted)
+    full = offices.run([b"s", b"1", b"add", b"t"], offices.Stood(data), offices.sample_text("k1"))
+    check("said of a full study", full, (b"", b"s: R10: every place is taken\n", None))
+
+
 # ---------------------------------------------------------------- values in a text
 
 VALUES = (("lost-time", "4s", 4000), ("minimum-green", "4.5s", 4500), ("pedestrian-time", "4.125s", 4125), ("lost-time", "4000ms", 4000),
@@ -908,7 +1168,8 @@ def main(rounds):
     for part in (check_k1_k2, check_k3_to_k10, check_listing, check_letters, check_layout,
                  check_book_examples, check_named, check_closed_legs, check_refusals, check_decay,
                  check_amend_answers, check_study_places, check_study_write, check_example_3, check_named_diamonds,
-                 check_diamond_refusals, check_pages):
+                 check_diamond_refusals, check_pages, check_open_adds, check_open_amendments, check_open_reads, check_open_files,
+                 check_sample_offices, check_office_words):
         part()
     check_again(rounds)
     check_judge(rounds)
@@ -918,6 +1179,8 @@ def main(rounds):
     check_values(rounds)
     check_ratio(rounds)
     check_diamonds(rounds)
+    check_offices(rounds)
+    check_told(rounds)
     print("%(passed)d passed, %(failed)d failed" % counts)
     return 1 if counts["failed"] else 0
 

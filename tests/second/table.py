@@ -42,6 +42,7 @@ def entry_name(entry):
 NAMED = {tuple(entry_name(i).split()): i for i in range(81)}
 KINDS = {kind for _, kind in NAMED}
 TEXT_MOST = 65535
+WORD_MOST = 4096  # the bytes of an argument
 USUAL = [MOVEMENT_USUAL[i % 5] for i in range(60)] + [APPROACH_USUAL[i % 5] for i in range(20)] + [120]
 
 
@@ -184,6 +185,10 @@ def refusal_text(number, place):
         said = "the storage is outside %d to %d" % icu2003.STORAGE_LIMITS
     elif number == 8:
         said = "the travel time is outside %s to %s" % tuple(value_text("travel-time", limit) for limit in icu2003.TRAVEL_LIMITS)
+    elif number == 9:
+        said = "the office has no site there"
+    elif number == 10:
+        said = "every place is taken"
     elif place == 0:
         said = "this is no study file"
     else:
@@ -212,6 +217,36 @@ def said_of(data):
         before = unmarked(data)[:place]
         return "line %d, column %d: %s\n" % (before.count(b"\n") + 1, place - (before.rfind(b"\n") + 1) + 1, said)
     return ""
+
+
+def said_of_junction(data):
+    """What is said of a file that is no junction's text, as bytes; None stands for a file that cannot be read."""
+    if data is None:
+        return b"cannot be read\n"
+    if icu2003.study_check(data) == (0, 0):
+        return b"this is a study file: name a junction's text, as icustudy show prints one\n"
+    return said_of(data).encode()
+
+
+# ---------------------------------------------------------------- words of a call
+
+def word_taken(word):
+    """An argument as a program takes it: one that is too long, as one of no bytes."""
+    return word if len(word) <= WORD_MOST else b""
+
+
+def change_of(words):
+    """The entry and the value that three words ask for; Wrong, with the word at fault in place of a byte, where they ask for none."""
+    name, kind, value = words
+    if name.decode("latin-1") not in GROUPS:
+        raise Wrong(name, "no movement, no approach and not the junction has this name")
+    entry = NAMED.get((name.decode("latin-1"), kind.decode("latin-1")))
+    if entry is None:
+        raise Wrong(kind, "no entry has this name there")
+    try:
+        return entry, value_of(kind.decode(), value)
+    except Wrong as wrong:
+        raise Wrong(value, wrong.args[1])
 
 
 # ---------------------------------------------------------------- the worksheet

@@ -13,7 +13,8 @@ ghost use Rattle.amend_sets.specs.Working.{changesOf};
 use answers::Answer;
 use answers::Refusal;
 
-fn check_entry(entry: u32) -> Answer
+// Whether there is such an entry.
+pub fn check_entry(entry: u32) -> Answer
     ensures { λ r. ⌜ r ≡ entryAnswer entry ⌝ }
 {
     if layout::CYCLE_ENTRY < entry as usize {

@@ -1,12 +1,15 @@
 -- Laws of answers: how checks that follow one another answer, and what checks in turn find.
 use mathlib.Core.Path.{_≡_, refl, _∙_, sym}
-use mathlib.Core.Bool.{Bool, true, false, cond}
+use mathlib.Core.Bool.{Bool, true, false, not, cond}
 use Prim.Native.Nat.{ℕ, zero, suc, _+_, _-_, _≤_, _<_}
 use native.Mathlib.Nat.{add-zero, add-suc, suc-add, sub-zero, le-of-suc-le-suc, not-suc-le-zero}
 use native.Mathlib.Numerals.{add-one}
 use native.Mathlib.Omega.{arith}
+use lib.Dec.{eqb}
+use borrow.Author.Tests.{eqb-true, not-false}
 use Rattle.answers.specs.Answers.{_then_, refuse-if, inTurn, left-by}
 use Rattle.answers.specs.declared.Refusal.{Refusal}
+use Rattle.answers.specs.declared.Refusal.the-variants.{Size}
 use Rattle.answers.specs.declared.Answer.{Answer}
 use Rattle.answers.specs.declared.Answer.the-variants.{Accepted, Refused}
 
@@ -48,6 +51,10 @@ refuses why place e = rw e
 
 pub accepts : {bad : Bool} (why : Refusal) (place : ℕ) → bad ≡ false → refuse-if bad why place ≡ Accepted
 accepts why place e = rw e
+
+-- SIZE is not answered only of as many numbers as there should be
+pub sized : (n count : ℕ) → refuse-if (not (eqb n count)) Size 0 ≡ Accepted → n ≡ count
+sized n count h = eqb-true n count (not-false _ (not-refused (not (eqb n count)) Size 0 h))
 
 -- checks in turn, of n, that have come to number i: what is left of them is the whole
 pub record Searched (check : ℕ → Answer) (n i : ℕ) : Type 0 where

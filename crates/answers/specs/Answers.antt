@@ -3,9 +3,9 @@ use mathlib.Core.Path.{_≡_, refl}
 use mathlib.Core.Bool.{Bool, true, false, cond}
 use Prim.Native.Nat.{ℕ, zero, suc}
 use Rattle.answers.specs.declared.Refusal.{Refusal}
-use Rattle.answers.specs.declared.Refusal.the-variants.{Size, Entry, Range, Shared, NoLane, File, Store, Travel}
+use Rattle.answers.specs.declared.Refusal.the-variants.{Size, Entry, Range, Shared, NoLane, File, Store, Travel, Owner, Full}
 use Rattle.answers.specs.declared.Place.{Place}
-use Rattle.answers.specs.declared.Place.the-variants.{OfNothing, OfEntries, OfApproaches, OfMovements, OfBytes, OfRecord}
+use Rattle.answers.specs.declared.Place.the-variants.{OfNothing, OfEntries, OfApproaches, OfMovements, OfBytes, OfRecord, OfStudy}
 use Rattle.answers.specs.declared.Answer.{Answer}
 use Rattle.answers.specs.declared.Answer.the-variants.{Accepted, Refused}
 
@@ -17,7 +17,8 @@ infix 40 _at_
 abbrev pub _at_ : ℕ → Place → Row
 number at place = record { number = number; place = place }
 
--- the table: a row for each name, its number and what its place is a place of; "then 7 STORE and 8 TRAVEL", of a record
+-- the table: a row for each name, its number and what its place is a place of; "then 7 STORE and 8 TRAVEL", of a record;
+-- "9 OWNER .. place the site", of an open study, and "10 FULL"
 abbrev pub rowOf : Refusal → Row
 rowOf Size = 1 at OfNothing
 rowOf Entry = 2 at OfNothing
@@ -27,6 +28,8 @@ rowOf NoLane = 5 at OfMovements
 rowOf File = 6 at OfBytes
 rowOf Store = 7 at OfRecord
 rowOf Travel = 8 at OfRecord
+rowOf Owner = 9 at OfStudy
+rowOf Full = 10 at OfNothing
 
 abbrev pub refusalNumber : Refusal → ℕ
 refusalNumber why = rowOf why .number

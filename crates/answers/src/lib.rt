@@ -12,6 +12,8 @@ pub enum Refusal {
     File,
     Store,
     Travel,
+    Owner,
+    Full,
 }
 
 // What a refusal's place counts.
@@ -22,6 +24,7 @@ pub enum Place {
     OfMovements,
     OfBytes,
     OfRecord,
+    OfStudy,
 }
 
 pub enum Answer {
@@ -43,6 +46,8 @@ impl Refusal {
             Refusal::File => 6,
             Refusal::Store => 7,
             Refusal::Travel => 8,
+            Refusal::Owner => 9,
+            Refusal::Full => 10,
         }
     }
 
@@ -59,6 +64,8 @@ impl Refusal {
             Refusal::File => Place::OfBytes,
             Refusal::Store => Place::OfRecord,
             Refusal::Travel => Place::OfRecord,
+            Refusal::Owner => Place::OfStudy,
+            Refusal::Full => Place::OfNothing,
         }
     }
 }

@@ -10,11 +10,11 @@ use lib.Seq.{length-take-le}
 use lib.Dec.{eqb, lit≤}
 use borrow.Author.Tests.{eqb-true, eq-eqb, not-false}
 use Rattle.answers.specs.declared.Refusal.{Refusal}
-use Rattle.answers.specs.declared.Refusal.the-variants.{Size, Range as OutOfRange, Store, Travel}
+use Rattle.answers.specs.declared.Refusal.the-variants.{Range as OutOfRange, Store, Travel}
 use Rattle.answers.specs.declared.Answer.{Answer}
 use Rattle.answers.specs.declared.Answer.the-variants.{Accepted, Refused}
 use Rattle.answers.specs.Answers.{_then_, refuse-if, inTurn, lowest, placeOf}
-use Rattle.answers.proofs.Laws.{go-on, both-accepted, not-refused, accepts, each-accepted}
+use Rattle.answers.proofs.Laws.{go-on, both-accepted, not-refused, accepts, sized, each-accepted}
 use Rattle.layout.specs.Entries.{entryCount}
 use Rattle.layout.specs.Diamond.{eastFrom, eastCycle, storagesFrom, storageCount, travelPlace, recordCount, diamondCount}
 use Rattle.kinds.specs.declared.Kind.the-variants.{Storage, TravelTime}
@@ -26,10 +26,6 @@ use Rattle.entries.specs.Judging.{sizeAnswer, refusalOf, countOf, faulty, eachA
 use Rattle.entries.proofs.Laws.{count-most}
 use Rattle.diamond_rules.specs.Record.{west, east, storage, travel, countedOn, bothAnswer, cyclesAnswer, storesAnswer, travelAnswer}
 use Rattle.diamond_rules.specs.Record.{junctionsAnswer, ownAnswer, recordSize, judgedRecord, cellsSize, diamondAnswer}
-
--- SIZE is not answered only of as many numbers as there should be
-pub sized : (n count : ℕ) → refuse-if (not (eqb n count)) Size 0 ≡ Accepted → n ≡ count
-sized n count h = eqb-true n count (not-false _ (not-refused (not (eqb n count)) Size 0 h))
 
 -- of a whole record, each junction has its entries
 pub west-length : (r : List ℕ) → length r ≡ recordCount → length (west r) ≡ entryCount

@@ -64,7 +64,8 @@ pub fn cycle_entry(entries: &[u32]) -> u32
     entries[layout::CYCLE_ENTRY]
 }
 
-fn check_size(entries: &[u32]) -> Answer
+// Whether there are as many numbers as entries.
+pub fn check_size(entries: &[u32]) -> Answer
     ensures { λ r. ⌜ r ≡ sizeAnswer (now (entries .entry)) ⌝ }
 {
     if entries.len() != layout::ENTRIES {

@@ -11,6 +11,7 @@ use Rattle.study.specs.Study.{judgement, countOf, siteEntriesAnswer, siteEntrie
 use Rattle.study_listing.specs.Listing.{listing, listAnswer}
 use Rattle.diamond_rules.specs.Record.{diamondAnswer}
 use Rattle.diamond_rules.specs.Lines.{rated}
+use Rattle.open_rules.specs.Open.{Study, addAnswer, added, addedPlace, amendSiteAnswer, amendedBlocks, readAnswer, readSheet}
 use Rattle.icu.specs.declared.IcuAnswer.{IcuAnswer}
 use Rattle.icu.specs.Told.{told}
 
@@ -53,3 +54,16 @@ listAllows file old before one left size =
 -- from a record r, in cells that hold d
 abbrev pub diamondAllows : List ℕ → List ℕ → IcuAnswer → List ℕ → Type 0
 diamondAllows r d = Allowed (told (diamondAnswer r d)) (rated r d)
+
+-- an office's entries e, added to an open study S, and their place, in a number that was before
+abbrev pub openAddAllows : Study → ℕ → List ℕ → ℕ → IcuAnswer → Study → ℕ → Type 0
+openAddAllows S office e before one left place =
+    Allowed (told (addAnswer S office e)) (added S office e) one left × (place ≡ addedPlace S office e before)
+
+-- entry i of an office's site at place s given the value v, in the blocks
+abbrev pub openAmendAllows : Study → ℕ → ℕ → ℕ → ℕ → IcuAnswer → List ℕ → Type 0
+openAmendAllows S office s i v = Allowed (told (amendSiteAnswer S office s i v)) (amendedBlocks S office s i v)
+
+-- an office's site at place s, on a sheet that holds d
+abbrev pub openReadAllows : Study → ℕ → ℕ → List ℕ → IcuAnswer → List ℕ → Type 0
+openReadAllows S office s d = Allowed (told (readAnswer S office s d)) (readSheet S office s d)

@@ -2,7 +2,8 @@
 ghost use mathlib.Core.Path.{_≡_};
 ghost use Rattle.icu.specs.Told.{told};
 ghost use Rattle.icu.specs.Calls.{fillAllows, amendAllows, checkAllows, countAllows, siteAllows, writeAllows, listAllows};
-ghost use Rattle.icu.specs.Calls.{diamondAllows};
+ghost use Rattle.icu.specs.Calls.{diamondAllows, openAddAllows, openAmendAllows, openReadAllows};
+ghost use Rattle.open_rules.specs.Open.{study};
 use answers::Answer;
 
 // Number 0 is accepted, with place 0; else the refusal's number and place.
@@ -82,4 +83,48 @@ pub extern "C" fn icu_diamond(record: &[u32], cells: &mut [u32]) -> IcuAnswer
     ensures { λ r. ⌜ diamondAllows (now («record» .entry)) (now (cells .entry)) r (now (cells .exit)) ⌝ }
 {
     tell(diamond::rate(record, cells))
+}
+
+// Adds an office's site to an open study, at the lowest free place, and gives that place.
+#[no_mangle]
+pub extern "C" fn icu_open_add(
+    owners: &mut [u32],
+    blocks: &mut [u32],
+    office: u32,
+    entries: &[u32],
+    place: &mut u32,
+) -> IcuAnswer
+    ensures { λ r. ⌜ openAddAllows (study (now (owners .entry)) (now (blocks .entry))) office (now (entries .entry)) (now (place .entry))
+        r (study (now (owners .exit)) (now (blocks .exit))) (now (place .exit)) ⌝ }
+{
+    tell(open_study::add(owners, blocks, office, entries, place))
+}
+
+// Changes one entry of an office's site in its block.
+#[no_mangle]
+pub extern "C" fn icu_open_amend(
+    owners: &[u32],
+    blocks: &mut [u32],
+    office: u32,
+    site: u32,
+    entry: u32,
+    value: u32,
+) -> IcuAnswer
+    ensures { λ r. ⌜ openAmendAllows (study (now (owners .entry)) (now (blocks .entry))) office site entry value r (now (blocks .exit)) ⌝ }
+{
+    tell(open_study::amend(owners, blocks, office, site, entry, value))
+}
+
+// Fills a sheet from an office's site.
+#[no_mangle]
+pub extern "C" fn icu_open_read(
+    owners: &[u32],
+    blocks: &[u32],
+    office: u32,
+    site: u32,
+    sheet: &mut [u32],
+) -> IcuAnswer
+    ensures { λ r. ⌜ openReadAllows (study (now (owners .entry)) (now (blocks .entry))) office site (now (sheet .entry)) r (now (sheet .exit)) ⌝ }
+{
+    tell(open_study::read(owners, blocks, office, site, sheet))
 }

@@ -6,7 +6,9 @@ use contract.Notation.{connectives}
 use denote.Ref.{now}
 use denote.Triple.Clauses.{AtExit}
 use borrow.Fn.World.{World, ArgsD, ResD, Pr}
+use Rattle.open_rules.specs.Open.{study}
 use Rattle.icu.specs.Calls.{fillAllows, amendAllows, checkAllows, countAllows, siteAllows, writeAllows, listAllows, diamondAllows}
+use Rattle.icu.specs.Calls.{openAddAllows, openAmendAllows, openReadAllows}
 use Rattle.icu.proofs.icu_fill as fill
 use Rattle.icu.proofs.icu_fill.Statement as fill-stated
 use Rattle.icu.proofs.icu_fill.Reads as fill-reads
@@ -39,6 +41,18 @@ use Rattle.icu.proofs.icu_diamond as diamond
 use Rattle.icu.proofs.icu_diamond.Statement as diamond-stated
 use Rattle.icu.proofs.icu_diamond.Reads as diamond-reads
 use Rattle.icu.proofs.icu_diamond.Met as diamond-met
+use Rattle.icu.proofs.icu_open_add as open-add
+use Rattle.icu.proofs.icu_open_add.Statement as open-add-stated
+use Rattle.icu.proofs.icu_open_add.Reads as open-add-reads
+use Rattle.icu.proofs.icu_open_add.Met as open-add-met
+use Rattle.icu.proofs.icu_open_amend as open-amend
+use Rattle.icu.proofs.icu_open_amend.Statement as open-amend-stated
+use Rattle.icu.proofs.icu_open_amend.Reads as open-amend-reads
+use Rattle.icu.proofs.icu_open_amend.Met as open-amend-met
+use Rattle.icu.proofs.icu_open_read as open-read
+use Rattle.icu.proofs.icu_open_read.Statement as open-read-stated
+use Rattle.icu.proofs.icu_open_read.Reads as open-read-reads
+use Rattle.icu.proofs.icu_open_read.Met as open-read-met
 
 -- a clause of a promise says this fact and nothing else
 abbrev Exactly : (w : World) → Pr w → Type 0 → Type 2
@@ -109,3 +123,31 @@ pub diamond-promises :
     (κs : Lfts 2) (a : ArgsD diamond.signature κs) (r : ResD diamond.signature κs) (s : AtExit diamond.ended κs) (w : World)
     → Exactly w (diamond-reads.ensures κs a tt r s w) (diamondAllows (now (a .0)) (now (a .1 .0)) r (now (s .1 .0)))
 diamond-promises κs a r s w = refl
+
+pub open-add-keeps : {M : Type 1} → open-add-stated.statement M
+open-add-keeps = open-add-met.met
+
+pub open-add-promises :
+    (κs : Lfts 4) (a : ArgsD open-add.signature κs) (r : ResD open-add.signature κs) (s : AtExit open-add.ended κs) (w : World)
+    → Exactly w (open-add-reads.ensures κs a tt r s w)
+    (openAddAllows (study (now (a .0)) (now (a .1 .0))) (a .1 .1 .0) (now (a .1 .1 .1 .0)) (now (a .1 .1 .1 .1 .0))
+    r (study (now (s .0)) (now (s .1 .0))) (now (s .1 .1 .1 .1 .0)))
+open-add-promises κs a r s w = refl
+
+pub open-amend-keeps : {M : Type 1} → open-amend-stated.statement M
+open-amend-keeps = open-amend-met.met
+
+pub open-amend-promises :
+    (κs : Lfts 2) (a : ArgsD open-amend.signature κs) (r : ResD open-amend.signature κs) (s : AtExit open-amend.ended κs) (w : World)
+    → Exactly w (open-amend-reads.ensures κs a tt r s w)
+    (openAmendAllows (study (now (a .0)) (now (a .1 .0))) (a .1 .1 .0) (a .1 .1 .1 .0) (a .1 .1 .1 .1 .0) (a .1 .1 .1 .1 .1 .0) r (now (s .1 .0)))
+open-amend-promises κs a r s w = refl
+
+pub open-read-keeps : {M : Type 1} → open-read-stated.statement M
+open-read-keeps = open-read-met.met
+
+pub open-read-promises :
+    (κs : Lfts 3) (a : ArgsD open-read.signature κs) (r : ResD open-read.signature κs) (s : AtExit open-read.ended κs) (w : World)
+    → Exactly w (open-read-reads.ensures κs a tt r s w)
+    (openReadAllows (study (now (a .0)) (now (a .1 .0))) (a .1 .1 .0) (a .1 .1 .1 .0) (now (a .1 .1 .1 .1 .0)) r (now (s .1 .1 .1 .1 .0)))
+open-read-promises κs a r s w = refl

@@ -11,7 +11,7 @@ use Rattle.answers.specs.Answers.{_then_, left-by}
 use Rattle.answers.specs.declared.Refusal.the-variants.{Size}
 use Rattle.answers.specs.declared.Answer.{Answer}
 use Rattle.answers.specs.declared.Answer.the-variants.{Accepted, Refused}
-use Rattle.answers.proofs.Laws.{both-accepted, renewed, not-refused}
+use Rattle.answers.proofs.Laws.{both-accepted, renewed, not-refused, sized}
 use Rattle.layout.specs.Entries.{entryCount}
 use Rattle.layout.specs.Sheet.{sheetCount}
 use Rattle.entries.specs.Judging.{judged}
@@ -33,7 +33,6 @@ use Rattle.study_listing.specs.Listing.{listing, listAnswer}
 use Rattle.layout.specs.Diamond.{diamondCount}
 use Rattle.diamond_rules.specs.Record.{judgedRecord, cellsSize, diamondAnswer}
 use Rattle.diamond_rules.specs.Lines.{diamond, rated}
-use Rattle.diamond_rules.proofs.Laws.{sized}
 use Rattle.icu.specs.declared.IcuAnswer.{IcuAnswer}
 use Rattle.icu.specs.Told.{told}
 use Rattle.icu.specs.Calls.{fillAllows, amendAllows, siteAllows, writeAllows, listAllows, diamondAllows}

@@ -4,13 +4,15 @@
 -- left` says that `icu_fill`, given the entries e and a sheet that holds d, may answer `one` and leave `left`. Calls.antt, beside
 -- this file, shows it of the calls themselves: each keeps its promise, and its promise is that definition, word for word.
 use mathlib.Core.Path.{_≡_, refl, sym, _∙_, ap}
+use mathlib.Core.Logic.{_≢_}
 use mathlib.Core.Bool.{true, false, cond}
 use mathlib.Core.List.{List, [], _∷_, map, replicate}
 use mathlib.Core.List.{length as size}
 use Prim.Native.Nat.{ℕ, _<_, _≤_, _*_}
 use lib.ListN.{length, getD, set, take}
-use Rattle.answers.specs.Answers.{_then_, left-by}
+use Rattle.answers.specs.Answers.{_then_, left-by, refusalNumber}
 use Rattle.answers.specs.declared.Refusal.{Refusal}
+use Rattle.answers.specs.declared.Refusal.the-variants.{Owner, Full}
 use Rattle.answers.specs.declared.Answer.the-variants.{Accepted, Refused}
 use Rattle.layout.specs.Entries.{approachCount, entryCount}
 use Rattle.layout.specs.Sheet.{BLANK, sheetCount}
@@ -55,11 +57,20 @@ use Rattle.diamond_rules.proofs.Example.{example3-accepted, example3-worked}
 use Rattle.diamond_theorems.specs.Best.{Picks, allowed, takes, NothingLost}
 use Rattle.diamond_theorems.proofs.Best as best
 use Rattle.diamond_theorems.proofs.Fits as fits
+use Rattle.open_rules.specs.Open.{Study, free, owns, blockAt, studySize, lowestFree, mayAdd}
+use Rattle.open_theorems.specs.Calls.{Call, caller, isAdd, next, output, own, revealed, changesOf}
+use Rattle.open_theorems.specs.Separation.{Alike}
+use Rattle.open_theorems.proofs.Respect.{respects}
+use Rattle.open_theorems.proofs.Unwinding.{told-same, steps-same}
 use Rattle.icu.specs.declared.IcuAnswer.{IcuAnswer}
+use Rattle.icu.specs.Told.{told}
 use Rattle.icu.specs.Calls.{fillAllows, amendAllows, siteAllows, writeAllows, listAllows, checkAllows, countAllows, diamondAllows, Allowed}
+use Rattle.icu.specs.Calls.{openAddAllows, openAmendAllows, openReadAllows}
 use Rattle.icu_theorems.specs.Outcomes.{Yes, No, toCompare, Run, GivenAgain}
+use Rattle.icu_theorems.specs.Offices.{openAllows, Heard, OpenRun}
 use Rattle.icu_theorems.proofs.Junctions.{acceptable}
 use Rattle.icu_theorems.proofs.Outcomes as outcomes
+use Rattle.icu_theorems.proofs.Offices as offices
 
 -- ANY TWO OUTCOMES of a call that its promise allows agree: its answer, and whatever it leaves in what it was lent.
 pub agree :
@@ -88,6 +99,23 @@ module _ {one other : IcuAnswer} {left right : List ℕ} where
       → ((one ≡ other) × (left ≡ right)) × (n ≡ m)
   list-agrees f old before p q = (agree (p .0) (q .0), p .1 ∙ sym (q .1))
 
+module _ {one other : IcuAnswer} where
+  pub open-add-agrees :
+      {left right : Study} {here there : ℕ} (S : Study) (office : ℕ) (e : List ℕ) (before : ℕ)
+      → openAddAllows S office e before one left here → openAddAllows S office e before other right there
+      → ((one ≡ other) × (left ≡ right)) × (here ≡ there)
+  open-add-agrees S office e before p q = (agree (p .0) (q .0), p .1 ∙ sym (q .1))
+
+  pub open-amend-agrees :
+      {left right : List ℕ} (S : Study) (office s i v : ℕ) → openAmendAllows S office s i v one left → openAmendAllows S office s i v other right
+      → (one ≡ other) × (left ≡ right)
+  open-amend-agrees S office s i v = agree
+
+  pub open-read-agrees :
+      {left right : List ℕ} (S : Study) (office s : ℕ) (d : List ℕ) → openReadAllows S office s d one left → openReadAllows S office s d other right
+      → (one ≡ other) × (left ≡ right)
+  open-read-agrees S office s d = agree
+
 pub check-agrees : {one other : IcuAnswer} (f : List ℕ) → checkAllows f one → checkAllows f other → one ≡ other
 check-agrees f p q = p ∙ sym q
 
@@ -96,7 +124,8 @@ count-agrees f p q = p ∙ sym q
 
 -- DEMAND 1. Every call finishes and asks nothing of its caller: the check proves that of every function, and no call of the
 -- crate icu has a `requires`. A refusal comes exactly when the table says: the answers are the definitions' `fillAnswer`,
--- `amendAnswer`, `judgement`, `siteEntriesAnswer`, `writeAnswer`, `listAnswer` and `diamondAnswer`. And a refusal alters nothing:
+-- `amendAnswer`, `judgement`, `siteEntriesAnswer`, `writeAnswer`, `listAnswer`, `diamondAnswer`, and of an open study `addAnswer`,
+-- `amendSiteAnswer` and `readAnswer`. And a refusal alters nothing:
 module _ {one : IcuAnswer} {left : List ℕ} where
   pub refused-fill : (e d : List ℕ) → fillAllows e d one left → No one → left ≡ d
   refused-fill = outcomes.refused-fill
@@ -115,6 +144,19 @@ module _ {one : IcuAnswer} {left : List ℕ} where
 
   pub refused-diamond : (r d : List ℕ) → diamondAllows r d one left → No one → left ≡ d
   refused-diamond = outcomes.refused-diamond
+
+pub refused-open-add :
+    {one : IcuAnswer} {left : Study} {place : ℕ} (S : Study) (office : ℕ) (e : List ℕ) (before : ℕ)
+    → openAddAllows S office e before one left place → No one → (left ≡ S) × (place ≡ before)
+refused-open-add = offices.refused-add
+
+pub refused-open-amendment :
+    {one : IcuAnswer} {left : List ℕ} (S : Study) (office s i v : ℕ) → openAmendAllows S office s i v one left → No one → left ≡ S .blocks
+refused-open-amendment = offices.refused-open-amend
+
+pub refused-open-reading :
+    {one : IcuAnswer} {left : List ℕ} (S : Study) (office s : ℕ) (d : List ℕ) → openReadAllows S office s d one left → No one → left ≡ d
+refused-open-reading = offices.refused-read
 
 -- DEMAND 2. Acceptable entries and a sheet's 209 cells are accepted, and nothing else is ..
 pub accepted-fill : {one : IcuAnswer} {left : List ℕ} (e d : List ℕ) → fillAllows e d one left → judged e ≡ Accepted → length d ≡ sheetCount → Yes one
@@ -270,6 +312,94 @@ ratio-below-1 = percentile
 -- .. and the book's example 3 is acceptable and comes out of the definitions, cell by cell.
 pub example-3 : (judgedRecord example3 ≡ Accepted) × (diamond example3 ≡ cells3)
 example-3 = (example3-accepted, example3-worked)
+
+-- AN OPEN STUDY. Whatever a call of any office on it may answer and leave is what `output` and `next` say of it ..
+pub open-call :
+    (S : Study) (c : Call) {one : IcuAnswer} {left : Study} {lent : List ℕ} → openAllows S c one left lent
+    → (one ≡ told (output S c .answer)) × (left ≡ next S c) × (lent ≡ output S c .lent)
+open-call S c allowed = let did = offices.does S c allowed in (did .answers, did .leaves, did .fills)
+
+-- .. and what a study is to office o, `Alike`, is the office's own places and blocks. In the words of separation kernels: LOCAL
+-- RESPECT, a call of another office leaves the study as it was to this one ..
+pub local-respect : (o : ℕ) (S : Study) (c : Call) → caller c ≢ o → Alike o S (next S c)
+local-respect = respects
+
+-- .. OUTPUT CONSISTENCY, two studies that are alike to the office answer its call the same ..
+pub output-consistency :
+    (o : ℕ) {S T : Study} → Alike o S T → (c : Call) → caller c ≡ o → (isAdd c ≡ true → lowestFree (S .owners) ≡ lowestFree (T .owners))
+    → output S c ≡ output T c
+output-consistency o = told-same
+
+-- .. and STEP CONSISTENCY, are alike to it afterwards; for an add, where the lowest free place, or that none is left, is the same.
+pub step-consistency :
+    (o : ℕ) {S T : Study} → Alike o S T → (c : Call) → caller c ≡ o → (isAdd c ≡ true → lowestFree (S .owners) ≡ lowestFree (T .owners))
+    → Alike o (next S c) (next T c)
+step-consistency o = steps-same
+
+-- So over any run of calls by other offices, refused ones among them, from any start, an office's places and blocks stay ..
+pub nothing-of-anothers :
+    (o : ℕ) (run : List Call) (S end : Study) (heard : List Heard) → OpenRun o run S end heard → own o run ≡ [] → Alike o S end
+nothing-of-anothers = offices.undisturbed-run
+
+-- .. and so does what it reads of them.
+pub reads-the-same :
+    (o s : ℕ) (d : List ℕ) {S T : Study} {one other : IcuAnswer} {left right : List ℕ}
+    → Alike o S T → openReadAllows S o s d one left → openReadAllows T o s d other right → (one ≡ other) × (left ≡ right)
+reads-the-same = offices.reads-alike
+
+-- WHAT AN OFFICE MAY LEARN. Two runs in which it makes the same calls, from studies that are alike to it, whatever other offices hold
+-- or do: if the same was revealed to it, the lowest free place at each of its adds, it hears the same, and they end alike to it.
+pub may-learn :
+    (o : ℕ) (run run′ : List Call) (S T : Study) {end end′ : Study} {heard heard′ : List Heard}
+    → OpenRun o run S end heard → OpenRun o run′ T end′ heard′ → Alike o S T → own o run ≡ own o run′ → revealed o run S ≡ revealed o run′ T
+    → (heard ≡ heard′) × Alike o end end′
+may-learn = offices.learns
+
+-- OWNER is one answer for another's, a free and no such place, and for office 0: whatever is not its own.
+pub not-its-own-amended :
+    (S : Study) (o s i v : ℕ) {one : IcuAnswer} {left : List ℕ} → openAmendAllows S o s i v one left
+    → studySize S ≡ Accepted → entryAnswer i ≡ Accepted → owns (S .owners) o s ≡ false → one ≡ told (Refused Owner s)
+not-its-own-amended = offices.owner-amending
+
+pub not-its-own-read :
+    (S : Study) (o s : ℕ) (d : List ℕ) {one : IcuAnswer} {left : List ℕ} → openReadAllows S o s d one left
+    → studySize S ≡ Accepted → sheetAnswer d ≡ Accepted → owns (S .owners) o s ≡ false → one ≡ told (Refused Owner s)
+not-its-own-read = offices.owner-reading
+
+-- DEMAND 3 OF EACH SITE. From any start, a site of an office's own that is read after any run of calls by any offices is judged, and
+-- accepted is the fresh fill of its starting entries with its accepted changes made in order ..
+pub site-from-any-start :
+    (o s : ℕ) (S : Study) (run : List Call) (end : Study) (heard : List Heard) (d : List ℕ) {one : IcuAnswer} {cells : List ℕ}
+    → studySize S ≡ Accepted → owns (S .owners) o s ≡ true → OpenRun o run S end heard → openReadAllows end o s d one cells → length d ≡ sheetCount
+    → let e = entriesBy (changesOf o s run) (blockAt (S .blocks) s) in (one ≡ told (judged e)) × (cells ≡ left-by (judged e) (sheet e) d)
+site-from-any-start = offices.site-from-any-start
+
+-- .. and one that was added is always accepted: what the same amendments make of a lent sheet that was filled from its entries.
+pub site-of-its-own :
+    (o : ℕ) (S : Study) (e : List ℕ) (before : ℕ) (run : List Call) (end : Study) (heard : List Heard) (d : List ℕ)
+    {one two : IcuAnswer} {left : Study} {place : ℕ} {cells : List ℕ}
+    → openAddAllows S o e before one left place → Yes one → OpenRun o run left end heard
+    → openReadAllows end o place d two cells → length d ≡ sheetCount
+    → Yes two × (cells ≡ sheet (entriesBy (changesOf o place run) e)) × (cells ≡ amendedBy (changesOf o place run) (sheet e))
+site-of-its-own = offices.site-read
+
+-- An add that is accepted gets the lowest free place; one that may be made is accepted exactly where a place is free ..
+module _ (S : Study) (office : ℕ) (e : List ℕ) (before : ℕ) {one : IcuAnswer} {left : Study} {place : ℕ}
+    (allowed : openAddAllows S office e before one left place) where
+  pub lowest-place :
+      Yes one → (place < length (S .owners)) × (getD (S .owners) place free ≡ free) × ((k : ℕ) → k < place → getD (S .owners) k free ≢ free)
+  lowest-place = offices.lowest-got S office e before allowed
+
+  pub place-if-free : mayAdd S office e ≡ Accepted → (s : ℕ) → s < length (S .owners) → getD (S .owners) s free ≡ free → Yes one
+  place-if-free = offices.got-if-free S office e before allowed
+
+  -- .. and told FULL exactly where none is.
+  pub full-if-none :
+      mayAdd S office e ≡ Accepted → ((s : ℕ) → s < length (S .owners) → getD (S .owners) s free ≢ free) → one ≡ told (Refused Full 0)
+  full-if-none = offices.full-if-none S office e before allowed
+
+  pub full-only-if-none : one .number ≡ refusalNumber Full → (s : ℕ) → s < length (S .owners) → getD (S .owners) s free ≢ free
+  full-only-if-none = offices.full-only S office e before allowed
 
 -- THE ENGINEERS' TEXTS. Any 81 numbers of 32 bits, written as a junction's text and read, are the same numbers ..
 pub written-as-text : (e : List ℕ) → length e ≡ entryCount → AllBelow numberLimit e → parsed (junctionText e) .entries ≡ e

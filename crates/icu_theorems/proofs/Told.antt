@@ -4,7 +4,7 @@ use Prim.Native.Nat.{ℕ, _<_}
 use native.Mathlib.Omega.{arith}
 use Rattle.answers.specs.Answers.{left-by, refusalNumber}
 use Rattle.answers.specs.declared.Refusal.{Refusal}
-use Rattle.answers.specs.declared.Refusal.the-variants.{Size, Entry, Range, Shared, NoLane, File, Store, Travel}
+use Rattle.answers.specs.declared.Refusal.the-variants.{Size, Entry, Range, Shared, NoLane, File, Store, Travel, Owner, Full}
 use Rattle.answers.specs.declared.Answer.{Answer}
 use Rattle.answers.specs.declared.Answer.the-variants.{Accepted, Refused}
 use Rattle.answers.proofs.Laws.{renewed}
@@ -22,6 +22,8 @@ some-number NoLane = omega arith
 some-number File = omega arith
 some-number Store = omega arith
 some-number Travel = omega arith
+some-number Owner = omega arith
+some-number Full = omega arith
 
 pub told-yes : {said : IcuAnswer} (answer : Answer) → said ≡ told answer → Yes said → answer ≡ Accepted
 told-yes Accepted is granted = refl

@@ -1,3 +1,4 @@
 pub mod Entries
 pub mod Sheet
 pub mod Diamond
+pub mod Open

@@ -151,3 +151,8 @@ pub const PAGE_ROOMS: usize = PAGE_VOLUMES + STORAGES;
 pub const PAGE_FITS: usize = PAGE_ROOMS + STORAGES;
 
 pub const DIAMOND_PAGE: usize = PAGE_FITS + STORAGES;
+
+// An open study: its places, and the numbers of all their blocks.
+pub const PLACES: usize = 180;
+
+pub const BLOCKS: usize = ENTRIES * PLACES;

@@ -119,7 +119,8 @@ fn list_since(
     }
 }
 
-fn list_changes(
+// The same of whole sheets.
+pub fn list_changes(
     filled: Answer,
     before: &[u32; CELLS],
     after: &[u32; CELLS],

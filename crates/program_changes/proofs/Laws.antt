@@ -1,7 +1,7 @@
 -- Laws of changes made one after the other: what one more adds, and that entries with a change made are acceptable.
 use Prim.Native.Nat.{ℕ, zero, suc, _+_, _≤_}
 use mathlib.Core.Path.{_≡_, refl}
-use mathlib.Core.Bool.{Bool, true, false, cond, _||_}
+use mathlib.Core.Bool.{Bool, true, false, _||_}
 use mathlib.Core.List.{List}
 use lib.ListN.{length, set}
 use lib.Dec.{eqb, leb}
@@ -17,20 +17,21 @@ use Rattle.text.specs.Text.{Placed}
 use Rattle.text.proofs.Laws.{placed-after}
 use Rattle.text_names.specs.Names.{titleCount, rowOf, entryNamed}
 use Rattle.text_values.specs.declared.Value.{Value}
-use Rattle.text_values.specs.declared.Value.the-variants.{Is, Not}
 use Rattle.text_values.specs.Values.{valueOf}
+use Rattle.program_changes.specs.declared.Asked.{Asked}
+use Rattle.program_changes.specs.declared.Asked.the-variants.{Change, Unclear}
 use Rattle.program_changes.specs.declared.Done.{Done}
 use Rattle.program_changes.specs.declared.Verdict.{Verdict}
-use Rattle.program_changes.specs.declared.Verdict.the-variants.{Made, Refused, NoName, NoEntry, NotValue}
-use Rattle.program_changes.specs.Changes.{verdictBy, verdictFor, verdictOf, verdictIn, entriesAfter, isMade, told, changesTo}
+use Rattle.program_changes.specs.declared.Verdict.the-variants.{Made, Refused, Unmade}
+use Rattle.program_changes.specs.Changes.{askedFor, askedOf, verdictBy, verdictFor, verdictOf, verdictIn, entriesAfter, isMade, told, changesTo}
 use Rattle.program_changes.specs.Working.{Came}
 
--- an entry that is named has the verdict of its value
-pub verdict-named :
-    (title kind value e : List ℕ) {row i : ℕ} {k : Kind} {v : Value} → row ≡ rowOf title → leb titleCount row ≡ false
-    → i ≡ entryNamed title kind → eqb i entryCount ≡ false → k ≡ kindAt i → v ≡ valueOf k value → verdictOf title kind value e ≡ verdictFor i v e
-unfolding verdictOf
-verdict-named title kind value e is-row known is-entry some is-kind is-value =
+-- an entry that is named is asked to have the value
+pub asked-named :
+    (title kind value : List ℕ) {row i : ℕ} {k : Kind} {v : Value} → row ≡ rowOf title → leb titleCount row ≡ false → i ≡ entryNamed title kind
+    → eqb i entryCount ≡ false → k ≡ kindAt i → v ≡ valueOf k value → askedOf title kind value ≡ askedFor i v
+unfolding askedOf
+asked-named title kind value is-row known is-entry some is-kind is-value =
     rw (← is-entry, ← is-row, known, some, ← is-kind, ← is-value)
 
 -- one change more
@@ -54,27 +55,18 @@ module _ (several : Bool) (words e : List ℕ) (n : ℕ) where
 -- a change that is made leaves acceptable entries
 verdict-made : (title kind value e : List ℕ) {i x : ℕ} → verdictOf title kind value e ≡ Made i x → judged (set e i x) ≡ Accepted
 unfolding verdictOf
-verdict-made title kind value e {i} {x} is =
-    by (leb titleCount (rowOf title)) (eqb j entryCount) (valueOf (kindAt j) value) is
+verdict-made title kind value e {i} {x} is = by (askedOf title kind value) is
   where
-    j : ℕ
-    j = entryNamed title kind
-
-    tried : (number : ℕ) (a : Answer) → judged (set e (entryNamed title kind) number) ≡ a
-        → verdictBy a (entryNamed title kind) number ≡ Made i x
-        → judged (set e i x) ≡ Accepted
-    tried number Accepted good made =
-        let same : entryNamed title kind ≡ i = cc in
+    tried : (j number : ℕ) (a : Answer) → judged (set e j number) ≡ a → verdictBy a j number ≡ Made i x → judged (set e i x) ≡ Accepted
+    tried j number Accepted good made =
+        let same : j ≡ i = cc in
         let new : number ≡ x = cc in
         rw (← same, ← new) good
-    tried number (No why place) bad made = absurd (let z : _≡_ {A = ℕ} 0 1 = cc in omega arith)
+    tried j number (No why place) bad made = absurd (let z : _≡_ {A = ℕ} 0 1 = cc in omega arith)
 
-    by : (no none : Bool) (v : Value) → cond no NoName (cond none NoEntry (verdictFor (entryNamed title kind) v e)) ≡ Made i x
-        → judged (set e i x) ≡ Accepted
-    by true none v made = absurd (let z : _≡_ {A = ℕ} 0 1 = cc in omega arith)
-    by false true v made = absurd (let z : _≡_ {A = ℕ} 0 1 = cc in omega arith)
-    by false false (Is number) made = tried number (judged (set e (entryNamed title kind) number)) refl made
-    by false false (Not why) made = absurd (let z : _≡_ {A = ℕ} 0 1 = cc in omega arith)
+    by : (a : Asked) → verdictFor a e ≡ Made i x → judged (set e i x) ≡ Accepted
+    by (Change j number) made = tried j number (judged (set e j number)) refl made
+    by (Unclear wrong) made = absurd (let z : _≡_ {A = ℕ} 0 1 = cc in omega arith)
 
 made-before : (made : Bool) → made || false ≡ true → made ≡ true
 made-before true h = refl
@@ -93,6 +85,4 @@ module _ (several : Bool) (words e : List ℕ) where
           → judged (entriesAfter v (changesTo several words e n .entries)) ≡ Accepted
       by (Made i x) is before h = verdict-made _ _ _ (changesTo several words e n .entries) is
       by (Refused why place) is before h = before h
-      by NoName is before h = before h
-      by NoEntry is before h = before h
-      by (NotValue why) is before h = before h
+      by (Unmade wrong) is before h = before h

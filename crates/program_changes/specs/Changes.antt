@@ -20,8 +20,12 @@ use Rattle.text_refusals.specs.Refusals.{refusalText}
 use Rattle.program_words.specs.Words.{wordAt}
 use Rattle.program_outcome.specs.declared.Remark.the-variants.{NoName as NotNamed, NoEntry as NotEntry}
 use Rattle.program_outcome.specs.Outcome.{named, remarked}
+use Rattle.program_changes.specs.declared.Wrong.{Wrong}
+use Rattle.program_changes.specs.declared.Wrong.the-variants.{NoName, NoEntry, NotValue}
+use Rattle.program_changes.specs.declared.Asked.{Asked}
+use Rattle.program_changes.specs.declared.Asked.the-variants.{Change, Unclear}
 use Rattle.program_changes.specs.declared.Verdict.{Verdict}
-use Rattle.program_changes.specs.declared.Verdict.the-variants.{Made, Refused, NoName, NoEntry, NotValue}
+use Rattle.program_changes.specs.declared.Verdict.the-variants.{Made, Refused, Unmade}
 
 -- the most changes of one call
 abbrev pub mostChanges : ℕ
@@ -29,36 +33,46 @@ mostChanges = 20
 
 -- one change -----------------------------------------------------------------------------------------------------------
 
+-- what is asked for: two words name the entry, a third is its value
+abbrev pub askedFor : ℕ → Value → Asked
+askedFor i (Is value) = Change i value
+askedFor i (Not why) = Unclear (NotValue why)
+
+unfoldable pub askedOf : List ℕ → List ℕ → List ℕ → Asked
+askedOf title kind value =
+    cond (leb titleCount (rowOf title)) (Unclear NoName)
+    (cond (eqb (entryNamed title kind) entryCount) (Unclear NoEntry)
+    (askedFor (entryNamed title kind) (valueOf (kindAt (entryNamed title kind)) value)))
+
+-- what is said of the word that is wrong
+abbrev pub wrongText : Wrong → List ℕ → List ℕ → List ℕ → List ℕ
+wrongText NoName title kind value = remarked title NotNamed
+wrongText NoEntry title kind value = remarked kind NotEntry
+wrongText (NotValue why) title kind value = named value (troubleText why value)
+
 -- entry i becomes value, if the entries are acceptable as they would stand
 abbrev pub verdictBy : Answer → ℕ → ℕ → Verdict
 verdictBy Accepted i value = Made i value
 verdictBy (No why place) i value = Refused why place
 
-abbrev pub verdictFor : ℕ → Value → List ℕ → Verdict
-verdictFor i (Is value) e = verdictBy (judged (set e i value)) i value
-verdictFor i (Not why) e = NotValue why
+abbrev pub verdictFor : Asked → List ℕ → Verdict
+verdictFor (Change i value) e = verdictBy (judged (set e i value)) i value
+verdictFor (Unclear wrong) e = Unmade wrong
 
--- what a change of entries comes to: two words name the entry, a third is its value
+-- what a change of entries comes to
 unfoldable pub verdictOf : List ℕ → List ℕ → List ℕ → List ℕ → Verdict
-verdictOf title kind value e =
-    cond (leb titleCount (rowOf title)) NoName
-    (cond (eqb (entryNamed title kind) entryCount) NoEntry
-    (verdictFor (entryNamed title kind) (valueOf (kindAt (entryNamed title kind)) value) e))
+verdictOf title kind value e = verdictFor (askedOf title kind value) e
 
 -- the entries afterwards
 abbrev pub entriesAfter : Verdict → List ℕ → List ℕ
 entriesAfter (Made i value) e = set e i value
 entriesAfter (Refused why place) e = e
-entriesAfter NoName e = e
-entriesAfter NoEntry e = e
-entriesAfter (NotValue why) e = e
+entriesAfter (Unmade wrong) e = e
 
 abbrev pub isMade : Verdict → Bool
 isMade (Made i value) = true
 isMade (Refused why place) = false
-isMade NoName = false
-isMade NoEntry = false
-isMade (NotValue why) = false
+isMade (Unmade wrong) = false
 
 -- the words of a call ---------------------------------------------------------------------------------------------------
 
@@ -85,13 +99,14 @@ valueIn words n = wordOfChange words n 2
 unfoldable pub verdictIn : List ℕ → ℕ → List ℕ → Verdict
 verdictIn words n e = verdictOf (titleIn words n) (kindIn words n) (valueIn words n) e
 
--- what is said of a change, by the word that is wrong
+-- what is said of a change that is not made
+abbrev pub wrongIn : Wrong → List ℕ → ℕ → List ℕ
+wrongIn wrong words n = wrongText wrong (titleIn words n) (kindIn words n) (valueIn words n)
+
 unfoldable pub verdictText : Verdict → List ℕ → ℕ → List ℕ
 verdictText (Made i value) words n = []
 verdictText (Refused why place) words n = refusalText why place
-verdictText NoName words n = remarked (titleIn words n) NotNamed
-verdictText NoEntry words n = remarked (kindIn words n) NotEntry
-verdictText (NotValue why) words n = named (valueIn words n) (troubleText why (valueIn words n))
+verdictText (Unmade wrong) words n = wrongIn wrong words n
 
 -- "change 2: ", where there are several
 unfoldable pub heading : Bool → ℕ → List ℕ

@@ -6,9 +6,9 @@ ghost use lib.ListN.{length, take, set};
 ghost use Rattle.layout.specs.Entries.{entryCount};
 ghost use Rattle.entries.specs.Judging.{judged};
 ghost use Rattle.text.specs.Text.{Placed};
-ghost use Rattle.program_changes.specs.Changes.{mostChanges, verdictBy, verdictOf, entriesAfter, isMade, changeWords, wordOfChange, verdictIn};
-ghost use Rattle.program_changes.specs.Changes.{verdictText, heading, told, changedBy};
-ghost use Rattle.program_changes.specs.Working.{verdictMost, headingMost, sentenceMost, saidMost, Came};
+ghost use Rattle.program_changes.specs.Changes.{mostChanges, askedOf, wrongText, verdictBy, verdictOf, entriesAfter, isMade};
+ghost use Rattle.program_changes.specs.Changes.{changeWords, wordOfChange, verdictIn, wrongIn, verdictText, heading, told, changedBy};
+ghost use Rattle.program_changes.specs.Working.{entryAsked, verdictMost, headingMost, sentenceMost, saidMost, Came};
 use answers::Answer;
 use answers::Refusal;
 use kinds::Kind;
@@ -37,19 +37,66 @@ const HEADING_BYTES: usize = 19;
 // Room for a sentence of each change.
 pub const SAID_BYTES: usize = MOST_CHANGES * (HEADING_BYTES + program_outcome::SAID_BYTES);
 
+// Which word of a change is wrong: its title, its kind or its value.
+pub enum Wrong {
+    NoName,
+    NoEntry,
+    NotValue(Trouble),
+}
+
+// What the words of a change ask for: an entry's new value, unless one of them is wrong.
+pub enum Asked {
+    Change(u32, u32),
+    Unclear(Wrong),
+}
+
 // What a change comes to: an entry has its new value, or why not.
 pub enum Verdict {
     Made(u32, u32),
     Refused(Refusal, u32),
-    NoName,
-    NoEntry,
-    NotValue(Trouble),
+    Unmade(Wrong),
 }
 
 // What the changes so far came to: whether one was made, and how many bytes are said of those that were not.
 pub struct Done {
     pub made: bool,
     pub says: usize,
+}
+
+// The entry and the value that three words name.
+pub fn asked_by(title: &[u8], kind: &[u8], value: &[u8]) -> Asked
+    ensures { λ r. ⌜ r ≡ askedOf (now (title .entry)) (now (kind .entry)) (now (value .entry)) ⌝ }
+    ensures { λ r. ⌜ entryAsked r < entryCount ⌝ }
+{
+    if text_names::TITLES <= text_names::row_of(title) {
+        return Asked::Unclear(Wrong::NoName);
+    }
+    let entry = text_names::entry_named(title, kind);
+    if entry == text_names::ENTRIES {
+        return Asked::Unclear(Wrong::NoEntry);
+    }
+    let word = text_values::value_of(Kind::at(entry as usize), value);
+    match word {
+        Value::Is(number) => Asked::Change(entry, number),
+        Value::Not(why) => Asked::Unclear(Wrong::NotValue(why)),
+    }
+}
+
+// Says what is wrong with the word that is.
+pub fn say_wrong(
+    wrong: Wrong,
+    title: &[u8],
+    kind: &[u8],
+    value: &[u8],
+    said: &mut [u8; program_outcome::SAID_BYTES],
+) -> usize
+    ensures { λ r. ⌜ Placed (now (said .entry)) 0 (wrongText wrong (now (title .entry)) (now (kind .entry)) (now (value .entry))) (now (said .exit)) r ⌝ }
+{
+    match wrong {
+        Wrong::NoName => program_outcome::say(title, Remark::NoName, said),
+        Wrong::NoEntry => program_outcome::say(kind, Remark::NoEntry, said),
+        Wrong::NotValue(why) => program_refusals::say_trouble(value, why, said),
+    }
 }
 
 fn judge(entries: &[u32; ENTRIES]) -> Answer
@@ -81,17 +128,9 @@ fn change(title: &[u8], kind: &[u8], value: &[u8], entries: &mut [u32; ENTRIES])
     ensures { λ r. ⌜ r ≡ verdictOf (now (title .entry)) (now (kind .entry)) (now (value .entry)) (now (entries .entry)) ⌝ }
     ensures { λ r. ⌜ now (entries .exit) ≡ entriesAfter r (now (entries .entry)) ⌝ }
 {
-    if text_names::TITLES <= text_names::row_of(title) {
-        return Verdict::NoName;
-    }
-    let entry = text_names::entry_named(title, kind);
-    if entry == text_names::ENTRIES {
-        return Verdict::NoEntry;
-    }
-    let word = text_values::value_of(Kind::at(entry as usize), value);
-    match word {
-        Value::Is(number) => try_entry(entries, entry, number),
-        Value::Not(why) => Verdict::NotValue(why),
+    match asked_by(title, kind, value) {
+        Asked::Change(entry, number) => try_entry(entries, entry, number),
+        Asked::Unclear(wrong) => Verdict::Unmade(wrong),
     }
 }
 
@@ -119,13 +158,26 @@ fn is_made(verdict: Verdict) -> bool
     match verdict {
         Verdict::Made(_, _) => true,
         Verdict::Refused(_, _) => false,
-        Verdict::NoName => false,
-        Verdict::NoEntry => false,
-        Verdict::NotValue(_) => false,
+        Verdict::Unmade(_) => false,
     }
 }
 
-// Says why a change was not made, of the word that is wrong.
+// Says which word of change n is wrong.
+fn say_wrong_in(
+    wrong: Wrong,
+    words: &[u8],
+    n: usize,
+    said: &mut [u8; program_outcome::SAID_BYTES],
+) -> usize
+    requires { ⌜ n < mostChanges ⌝ }
+    ensures { λ r. ⌜ Placed (now (said .entry)) 0 (wrongIn wrong (now (words .entry)) n) (now (said .exit)) r ⌝ }
+{
+    let title = word_of(words, n, TITLE);
+    let kind = word_of(words, n, KIND);
+    say_wrong(wrong, title, kind, word_of(words, n, VALUE), said)
+}
+
+// Says why a change was not made.
 fn say_verdict(
     verdict: Verdict,
     words: &[u8],
@@ -140,11 +192,7 @@ fn say_verdict(
         Verdict::Refused(why, place) => {
             program_refusals::say_answer(Answer::Refused(why, place), said)
         }
-        Verdict::NoName => program_outcome::say(word_of(words, n, TITLE), Remark::NoName, said),
-        Verdict::NoEntry => program_outcome::say(word_of(words, n, KIND), Remark::NoEntry, said),
-        Verdict::NotValue(why) => {
-            program_refusals::say_trouble(word_of(words, n, VALUE), why, said)
-        }
+        Verdict::Unmade(wrong) => say_wrong_in(wrong, words, n, said),
     }
 }
 

@@ -9,6 +9,6 @@ abbrev pub Within : Input → ℕ → Type 0
 Within (Read count) size = count ≤ size
 Within Failed size = Unit {0}
 
--- an argument, `.part` and a digit
-abbrev pub partMost : ℕ
-partMost = wordMost + 6
+-- an argument and an ending, as `.part` and a digit
+abbrev pub besideMost : ℕ
+besideMost = wordMost + 6

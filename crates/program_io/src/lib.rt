@@ -1,11 +1,12 @@
 // Input and output: arguments and files in lent areas, and areas written out. What the system reads or writes, no promise
-// can say; what is read lies within its area. A file is written whole beside its place, and then takes its name.
+// can say; what is read lies within its area. A file is written whole beside its place, and then takes its name. Where several
+// may change one file, the new one beside it has one name only, and is the lock.
 ghost use Prim.Native.Nat.{_+_, _≤_, _<_};
 ghost use lib.ListN.{length};
 ghost use Rattle.program_outcome.specs.Outcome.{wordMost};
 ghost use Rattle.io.specs.Counts.{Counts};
 ghost use Rattle.libc.specs.Io.{Ended};
-ghost use Rattle.program_io.specs.Input.{Within, partMost};
+ghost use Rattle.program_io.specs.Input.{Within, besideMost};
 use libc::PATH_MAX;
 use libc::STDERR_FILENO;
 use libc::STDOUT_FILENO;
@@ -22,10 +23,18 @@ pub const WORD_ROOM: usize = WORD_BYTES + 1;
 // The last byte of a name for the system, which is 0.
 const LAST: usize = PATH_MAX - 1;
 
-// How many names there are for a file beside another, and the bytes of one at most: an argument's, `.part` and a digit.
+// How many names there are for a new file beside the one that it is for, and where the digit stands that tells them apart.
 const PARTS: u32 = 10;
 
-const PART_BYTES: usize = WORD_BYTES + 6;
+const PART_DIGIT: usize = 5;
+
+// What the name of a lock ends with, beside the file that it is for.
+const LOCK: [u8; 5] = *b".lock";
+
+// The bytes of an ending at most, and of a name beside another.
+const ENDING_BYTES: usize = 6;
+
+const BESIDE_BYTES: usize = WORD_BYTES + ENDING_BYTES;
 
 // Takes an argument, and ends it by a byte 0; one that is too long is taken as one of no bytes.
 fn take_word(words: &mut [u8], at: usize, argument: usize) -> usize
@@ -124,7 +133,7 @@ fn find_open(file: i32, area: &mut [u8]) -> Found {
 
 // What there is where a file is to be written; it stays as it is. It is opened for writing, too, since it may be protected.
 // No file has a name of no bytes.
-fn find(name: &[u8], area: &mut [u8]) -> Found {
+pub fn find(name: &[u8], area: &mut [u8]) -> Found {
     if name.len() == 0 {
         return Found::Closed;
     }
@@ -153,32 +162,39 @@ fn is_free(name: &[u8], whole: bool) -> bool {
     says == 0
 }
 
-// The name of a file beside another: that one's, `.part` and a digit.
-fn put_part(name: &[u8], number: u32, path: &mut [u8]) -> usize
-    requires { ⌜ partMost ≤ length (now path) ⌝ }
+// The ending of a new file's name, `.part` and a digit.
+fn part(number: u32) -> [u8; ENDING_BYTES] {
+    let mut ending = *b".part0";
+    text::put_digit(&mut ending, PART_DIGIT, number % PARTS);
+    ending
+}
+
+// The name of a file beside another: that one's, and an ending.
+fn put_beside(name: &[u8], ending: &[u8], path: &mut [u8]) -> usize
+    requires { ⌜ besideMost ≤ length (now path) ⌝ }
     ensures { λ r. ⌜ Counts r (now (path .exit)) ⌝ }
 {
     let at = text::put_bytes(path, 0, program_outcome::front(name, WORD_BYTES));
-    let past = text::put_bytes(path, at, b".part");
-    text::put_digit(path, past, number % PARTS)
+    text::put_bytes(path, at, program_outcome::front(ending, ENDING_BYTES))
 }
 
-fn make_part(name: &[u8], number: u32) -> i32 {
-    let mut path = [0u8; PART_BYTES];
-    let size = put_part(name, number, &mut path);
+// Makes the file beside, if none has its name.
+fn make_beside(name: &[u8], ending: &[u8]) -> i32 {
+    let mut path = [0u8; BESIDE_BYTES];
+    let size = put_beside(name, ending, &mut path);
     os::create(&path[..size])
 }
 
-fn remove_part(name: &[u8], number: u32) {
-    let mut path = [0u8; PART_BYTES];
-    let size = put_part(name, number, &mut path);
+fn remove_beside(name: &[u8], ending: &[u8]) {
+    let mut path = [0u8; BESIDE_BYTES];
+    let size = put_beside(name, ending, &mut path);
     os::unlink(&path[..size]);
 }
 
 // Gives a file beside the name that it is for, in one step of the system; whatever had the name before loses it then.
-fn rename_part(name: &[u8], number: u32) -> bool {
-    let mut path = [0u8; PART_BYTES];
-    let size = put_part(name, number, &mut path);
+fn rename_beside(name: &[u8], ending: &[u8]) -> bool {
+    let mut path = [0u8; BESIDE_BYTES];
+    let size = put_beside(name, ending, &mut path);
     os::rename(&path[..size], name) == 0
 }
 
@@ -203,12 +219,13 @@ fn fill_and_close(file: i32, bytes: &[u8]) -> bool {
 fn write_beside(name: &[u8], bytes: &[u8]) -> u32 {
     let mut number: u32 = 0;
     while number < PARTS {
-        let file = make_part(name, number);
+        let ending = part(number);
+        let file = make_beside(name, &ending);
         if file >= 0 {
             if fill_and_close(file, bytes) {
                 return number;
             }
-            remove_part(name, number);
+            remove_beside(name, &ending);
             return PARTS;
         }
         number += 1;
@@ -241,15 +258,15 @@ pub fn print(program: &[u8], area: &[u8], size: usize) -> bool {
 }
 
 // Puts a file that was written beside in its place, once what there is to print is printed; else it is removed.
-fn settle(program: &[u8], name: &[u8], number: u32, printed: &[u8]) {
+fn settle(program: &[u8], name: &[u8], ending: &[u8], printed: &[u8]) {
     if !print(program, printed, printed.len()) {
-        remove_part(name, number);
+        remove_beside(name, ending);
         return;
     }
-    if rename_part(name, number) {
+    if rename_beside(name, ending) {
         return;
     }
-    remove_part(name, number);
+    remove_beside(name, ending);
     say_of(name, Remark::Unwritten);
 }
 
@@ -268,5 +285,57 @@ pub fn give(program: &[u8], name: &[u8], printed: &[u8], written: &[u8], whole: 
         say_of(name, Remark::Unwritten);
         return;
     }
-    settle(program, name, number, printed);
+    settle(program, name, &part(number), printed);
+}
+
+// Says of a lock that it stands.
+fn say_locked(name: &[u8]) {
+    let mut path = [0u8; BESIDE_BYTES];
+    let mut said = [0u8; SAID_BYTES];
+    let size = put_beside(name, &LOCK, &mut path);
+    let says = program_outcome::put_named(
+        &mut said,
+        &path[..size],
+        b"stands while somebody changes the study: try again, or remove it if nobody is at work\n",
+    );
+    say(&said, says);
+}
+
+// Takes the lock of a file, which nobody else has then: it is a new file beside, open for writing. Where it cannot be taken,
+// says why and answers -1. No file has a name of no bytes.
+pub fn take_lock(name: &[u8]) -> i32 {
+    if name.len() == 0 {
+        say_of(name, Remark::Unwritten);
+        return -1;
+    }
+    let file = make_beside(name, &LOCK);
+    if file >= 0 {
+        return file;
+    }
+    if os::errno() == libc::EEXIST {
+        say_locked(name);
+        return -1;
+    }
+    say_of(name, Remark::Unwritten);
+    -1
+}
+
+fn drop_lock(name: &[u8], file: i32) {
+    libc::close(file);
+    remove_beside(name, &LOCK);
+}
+
+// Prints, and gives up the lock: it is removed where there is nothing to write, and else holds the new file and takes its name.
+pub fn settle_lock(program: &[u8], name: &[u8], file: i32, printed: &[u8], written: &[u8]) {
+    if written.len() == 0 {
+        drop_lock(name, file);
+        print(program, printed, printed.len());
+        return;
+    }
+    if !fill_and_close(file, written) {
+        remove_beside(name, &LOCK);
+        say_of(name, Remark::Unwritten);
+        return;
+    }
+    settle(program, name, &LOCK, printed);
 }

@@ -90,7 +90,7 @@ fn take_bytes(
 }
 
 // And of a file.
-fn take_file(
+pub fn take_file(
     name: &[u8],
     input: Input,
     area: &[u8; AREA_BYTES],

@@ -22,7 +22,7 @@ pub enum Sought {
 }
 
 // A site's number from 1, as a study counts it, from 0; past any site, if there can be none.
-fn site_of(number: u64) -> u32
+pub fn site_of(number: u64) -> u32
     ensures { λ r. ⌜ r ≡ siteOf number ⌝ }
 {
     if number == 0 {

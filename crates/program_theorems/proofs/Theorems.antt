@@ -12,9 +12,10 @@ use denote.Ref.{now}
 use denote.Triple.Clauses.{AtExit}
 use borrow.Fn.World.{World, ArgsD, ResD, Pr}
 use Rattle.layout.specs.Entries.{entryCount}
+use Rattle.layout.specs.Open.{placeCount, blocksCount}
 use Rattle.answers.specs.declared.Answer.the-variants.{Accepted}
 use Rattle.lists.specs.Lists.{AllBelow, over}
-use Rattle.study_numbers.specs.Numbers.{byteLimit}
+use Rattle.study_numbers.specs.Numbers.{numberLimit, byteLimit}
 use Rattle.study.specs.Study.{siteLimit, countOf, siteAnswer, entriesUpTo, fileOf}
 use Rattle.study_changed.specs.Changed.{withEntries}
 use Rattle.study_changed.proofs.Written.{changed-study as study-changed}
@@ -27,6 +28,9 @@ use Rattle.program_sheet.specs.Run.{asksAll, sheetRun, pagesOf, pageAt}
 use Rattle.program_sheet.specs.Whole.{pagesUpTo, sheetWhole}
 use Rattle.program_sheet.proofs.Whole.{all-pages as pages-whole}
 use Rattle.program_amend.specs.Run.{amendRun}
+use Rattle.program_office.specs.Run.{startRun, toldOf as officeTold}
+use Rattle.open_file.specs.File.{isOpen, ownersIn, blocksIn, openFile}
+use Rattle.open_file.proofs.RoundTrip as opened
 use Rattle.program_study.specs.Run.{toldOf, showRun}
 use Rattle.program_make.specs.Make.{textSays, textAdds, studyOf}
 use Rattle.program_make.specs.Steps.{Typed, made, steps, finished}
@@ -34,6 +38,9 @@ use Rattle.program_make.proofs.Made.{made-of-texts as texts-made}
 use Rattle.program_list.specs.Run.{listRun}
 use Rattle.program_target.specs.Target.{targetText}
 use Rattle.program_diamond.specs.Run.{diamondRun}
+use Rattle.program_open_add.specs.Run.{openAddRun}
+use Rattle.program_open_amend.specs.Run.{openAmendRun}
+use Rattle.program_open_read.specs.Run.{openReadRun}
 use Rattle.program_sheet.proofs.run as sheet
 use Rattle.program_sheet.proofs.run.Statement as sheet-stated
 use Rattle.program_sheet.proofs.run.Reads as sheet-reads
@@ -74,10 +81,30 @@ use Rattle.program_diamond.proofs.run as diamond
 use Rattle.program_diamond.proofs.run.Statement as diamond-stated
 use Rattle.program_diamond.proofs.run.Reads as diamond-reads
 use Rattle.program_diamond.proofs.run.Met as diamond-met
+use Rattle.program_open_add.proofs.run as open-add
+use Rattle.program_open_add.proofs.run.Statement as open-add-stated
+use Rattle.program_open_add.proofs.run.Reads as open-add-reads
+use Rattle.program_open_add.proofs.run.Met as open-add-met
+use Rattle.program_open_amend.proofs.run as open-amend
+use Rattle.program_open_amend.proofs.run.Statement as open-amend-stated
+use Rattle.program_open_amend.proofs.run.Reads as open-amend-reads
+use Rattle.program_open_amend.proofs.run.Met as open-amend-met
+use Rattle.program_open_read.proofs.run as open-read
+use Rattle.program_open_read.proofs.run.Statement as open-read-stated
+use Rattle.program_open_read.proofs.run.Reads as open-read-reads
+use Rattle.program_open_read.proofs.run.Met as open-read-met
 use Rattle.program_target.proofs.judge as target
 use Rattle.program_target.proofs.judge.Statement as target-stated
 use Rattle.program_target.proofs.judge.Reads as target-reads
 use Rattle.program_target.proofs.judge.Met as target-met
+use Rattle.program_office.proofs.tell as open-tell
+use Rattle.program_office.proofs.tell.Statement as open-tell-stated
+use Rattle.program_office.proofs.tell.Reads as open-tell-reads
+use Rattle.program_office.proofs.tell.Met as open-tell-met
+use Rattle.program_office.proofs.start as open-start
+use Rattle.program_office.proofs.start.Statement as open-start-stated
+use Rattle.program_office.proofs.start.Reads as open-start-reads
+use Rattle.program_office.proofs.start.Met as open-start-met
 
 -- ANY TWO OUTCOMES of what is put at the front of an area agree, and so do those of a program's three texts.
 pub placed-agree :
@@ -117,6 +144,20 @@ pub changed-study :
     (file : List ℕ) (site : ℕ) (entries : List ℕ) → AllBelow byteLimit file → siteAnswer file site ≡ Accepted → length entries ≡ entryCount
     → withEntries file site entries ≡ fileOf (over (entriesUpTo file (countOf file)) (entryCount * site) entries)
 changed-study = study-changed
+
+-- THE FILE OF AN OPEN STUDY. Owners and blocks that are written and read back are the same ..
+pub open-written-and-read :
+    (owners blocks : List ℕ) → length owners ≡ placeCount → length blocks ≡ blocksCount → AllBelow numberLimit owners → AllBelow numberLimit blocks
+    → (isOpen (openFile owners blocks) ≡ true) × (ownersIn (openFile owners blocks) ≡ owners) × (blocksIn (openFile owners blocks) ≡ blocks)
+open-written-and-read owners blocks places numbers small low = (
+  opened.written-is-open owners blocks places numbers,
+  opened.owners-back owners blocks places numbers small,
+  opened.blocks-back owners blocks places numbers low,
+)
+
+-- .. and a file that is one, read and written, is the same bytes.
+pub open-read-and-written : (file : List ℕ) → AllBelow byteLimit file → isOpen file ≡ true → openFile (ownersIn file) (blocksIn file) ≡ file
+open-read-and-written = opened.read-written
 
 -- THE CALLS THEMSELVES. A clause of a promise says this fact and nothing else.
 abbrev Exactly : (w : World) → Pr w → Type 0 → Type 2
@@ -231,3 +272,55 @@ pub diamond-promises :
     (Left (diamondRun (a .0) (now (a .1 .0)) (now (a .1 .1 .0)) (now (a .1 .1 .1 .0))) (now (a .1 .1 .1 .1 .0)) (now (a .1 .1 .1 .1 .1 .0))
     (now (s .1 .1 .1 .1 .0)) (now (s .1 .1 .1 .1 .1 .0)) r)
 diamond-promises κs a r s w = refl
+
+pub open-add-keeps : {M : Type 1} → open-add-stated.statement M
+open-add-keeps = open-add-met.met
+
+pub open-add-promises :
+    (κs : Lfts 6) (a : ArgsD open-add.signature κs) (r : ResD open-add.signature κs) (s : AtExit open-add.ended κs) (w : World)
+    → let run = openAddRun (a .0) (now (a .1 .0)) (now (a .1 .1 .0)) (now (a .1 .1 .1 .0)) in
+    Both w (open-add-reads.ensures κs a tt r s w)
+    (Left run (now (a .1 .1 .1 .1 .0)) (now (a .1 .1 .1 .1 .1 .1 .0)) (now (s .1 .1 .1 .1 .0)) (now (s .1 .1 .1 .1 .1 .1 .0)) r)
+    (Placed (now (a .1 .1 .1 .1 .1 .0)) 0 (run .writes) (now (s .1 .1 .1 .1 .1 .0)) (r .writes))
+open-add-promises κs a r s w = refl
+
+pub open-amend-keeps : {M : Type 1} → open-amend-stated.statement M
+open-amend-keeps = open-amend-met.met
+
+pub open-amend-promises :
+    (κs : Lfts 5) (a : ArgsD open-amend.signature κs) (r : ResD open-amend.signature κs) (s : AtExit open-amend.ended κs) (w : World)
+    → let run = openAmendRun (a .0) (now (a .1 .0)) (now (a .1 .1 .0)) in
+    Both w (open-amend-reads.ensures κs a tt r s w)
+    (Left run (now (a .1 .1 .1 .0)) (now (a .1 .1 .1 .1 .1 .0)) (now (s .1 .1 .1 .0)) (now (s .1 .1 .1 .1 .1 .0)) r)
+    (Placed (now (a .1 .1 .1 .1 .0)) 0 (run .writes) (now (s .1 .1 .1 .1 .0)) (r .writes))
+open-amend-promises κs a r s w = refl
+
+pub open-read-keeps : {M : Type 1} → open-read-stated.statement M
+open-read-keeps = open-read-met.met
+
+pub open-read-promises :
+    (κs : Lfts 4) (a : ArgsD open-read.signature κs) (r : ResD open-read.signature κs) (s : AtExit open-read.ended κs) (w : World)
+    → Exactly w (open-read-reads.ensures κs a tt r s w)
+    (Left (openReadRun (a .0) (now (a .1 .0)) (now (a .1 .1 .0))) (now (a .1 .1 .1 .0)) (now (a .1 .1 .1 .1 .0)) (now (s .1 .1 .1 .0))
+    (now (s .1 .1 .1 .1 .0)) r)
+open-read-promises κs a r s w = refl
+
+pub open-tell-keeps : {M : Type 1} → open-tell-stated.statement M
+open-tell-keeps = open-tell-met.met
+
+pub open-tell-promises :
+    (κs : Lfts 2) (a : ArgsD open-tell.signature κs) (r : ResD open-tell.signature κs) (s : AtExit open-tell.ended κs) (w : World)
+    → Exactly w (open-tell-reads.ensures κs a tt r s w)
+    (Left (officeTold (a .0)) (now (a .1 .0)) (now (a .1 .1 .0)) (now (s .1 .0)) (now (s .1 .1 .0)) r)
+open-tell-promises κs a r s w = refl
+
+pub open-start-keeps : {M : Type 1} → open-start-stated.statement M
+open-start-keeps = open-start-met.met
+
+pub open-start-promises :
+    (κs : Lfts 3) (a : ArgsD open-start.signature κs) (r : ResD open-start.signature κs) (s : AtExit open-start.ended κs) (w : World)
+    → let run = startRun (a .0) (now (a .1 .0)) in
+    Both w (open-start-reads.ensures κs a tt r s w)
+    (Left run [] (now (a .1 .1 .1 .0)) [] (now (s .1 .1 .1 .0)) r)
+    (Placed (now (a .1 .1 .0)) 0 (run .writes) (now (s .1 .1 .0)) (r .writes))
+open-start-promises κs a r s w = refl

@@ -9,7 +9,7 @@ use Rattle.answers.specs.Answers.{refusalPlace}
 use Rattle.answers.specs.declared.Answer.{Answer}
 use Rattle.answers.specs.declared.Answer.the-variants.{Accepted, Refused as No}
 use Rattle.answers.specs.declared.Place.{Place}
-use Rattle.answers.specs.declared.Place.the-variants.{OfNothing, OfEntries, OfApproaches, OfMovements, OfBytes, OfRecord}
+use Rattle.answers.specs.declared.Place.the-variants.{OfNothing, OfEntries, OfApproaches, OfMovements, OfBytes, OfRecord, OfStudy}
 use Rattle.answers.specs.declared.Refusal.{Refusal}
 use Rattle.entries.specs.Judging.{judged}
 use Rattle.text_values.specs.declared.Trouble.the-variants.{TooLong}
@@ -27,6 +27,7 @@ entryAt OfApproaches place = approachPlace place sharedNo
 entryAt OfMovements place = movementPlace place volumeNo
 entryAt OfBytes place = place
 entryAt OfRecord place = place
+entryAt OfStudy place = place
 
 abbrev pub faultEntry : Refusal → ℕ → ℕ
 faultEntry why place = entryAt (refusalPlace why) place

@@ -47,6 +47,7 @@ fn entry_at(counted: Place, place: u32) -> usize
         Place::OfEntries => place,
         Place::OfBytes => place,
         Place::OfRecord => place,
+        Place::OfStudy => place,
     }
 }
 

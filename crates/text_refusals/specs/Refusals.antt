@@ -6,7 +6,7 @@ use lib.Dec.{eqb, ltb}
 use Rattle.layout.specs.Entries.{approachCount}
 use Rattle.answers.specs.Answers.{refusalNumber}
 use Rattle.answers.specs.declared.Refusal.{Refusal}
-use Rattle.answers.specs.declared.Refusal.the-variants.{Size, Entry, Range, Shared, NoLane, File, Store, Travel}
+use Rattle.answers.specs.declared.Refusal.the-variants.{Size, Entry, Range, Shared, NoLane, File, Store, Travel, Owner, Full}
 use Rattle.answers.specs.declared.Answer.{Answer}
 use Rattle.answers.specs.declared.Answer.the-variants.{Accepted, Refused as No}
 use Rattle.kinds.specs.Kinds.{limitsOf, kindAt}
@@ -54,6 +54,8 @@ whyText NoLane place = nameIn place ++ ascii ": vehicles, and no lane that takes
 whyText File place = fileText place
 whyText Store place = outsideText (ascii "the storage") Storage
 whyText Travel place = outsideText (ascii "the travel time") TravelTime
+whyText Owner place = ascii "the office has no site there\n"
+whyText Full place = ascii "every place is taken\n"
 
 -- "R3: EBL lanes is outside 0 to 6"
 unfoldable pub refusalText : Refusal → ℕ → List ℕ

@@ -97,6 +97,8 @@ fn put_why(out: &mut [u8], at: usize, why: Refusal, place: u32) -> usize
         Refusal::File => put_file(out, at, place),
         Refusal::Store => put_outside(out, at, b"the storage", Kind::Storage),
         Refusal::Travel => put_outside(out, at, b"the travel time", Kind::TravelTime),
+        Refusal::Owner => text::put_bytes(out, at, b"the office has no site there\n"),
+        Refusal::Full => text::put_bytes(out, at, b"every place is taken\n"),
     }
 }
 

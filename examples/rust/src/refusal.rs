@@ -19,6 +19,10 @@ pub enum Refusal {
     /// A study file badly laid out (the byte where it goes wrong), a site it lacks or too little
     /// room (4), or too many sites (0).
     File(u32),
+    /// The office has no site at this place: another's, a free one, or none that there is.
+    Owner(u32),
+    /// No place of the open study is free.
+    Full,
     /// A number and place that this version has no name for.
     Other(u32, u32),
 }
@@ -42,6 +46,8 @@ impl Refusal {
                 Some(Refusal::NoLane(approach, Turn::ALL[at % 3]))
             }
             6 => Some(Refusal::File(place)),
+            9 => Some(Refusal::Owner(place)),
+            10 => Some(Refusal::Full),
             _ => None,
         }
     }
@@ -63,6 +69,8 @@ impl fmt::Display for Refusal {
                 write!(f, "{approach:?} {turn:?} has volume and no lane to use")
             }
             Refusal::File(place) => write!(f, "the study file is refused at {place}"),
+            Refusal::Owner(place) => write!(f, "the office has no site at place {place}"),
+            Refusal::Full => write!(f, "every place is taken"),
             Refusal::Other(number, place) => write!(f, "refused: {number} at {place}"),
         }
     }

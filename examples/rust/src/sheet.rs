@@ -32,8 +32,15 @@ impl Sheet {
 
     /// Judges the entries and works out the whole sheet.
     pub fn fill(entries: &Entries) -> Result<Sheet, Refusal> {
+        Sheet::by(|cells| sys::fill(entries.numbers(), cells))
+    }
+
+    /// The sheet that a call fills.
+    pub(crate) fn by(
+        call: impl FnOnce(&mut [u32]) -> Result<(), Refusal>,
+    ) -> Result<Sheet, Refusal> {
         let mut cells = [0; Sheet::CELLS];
-        sys::fill(entries.numbers(), &mut cells)?;
+        call(&mut cells)?;
         Ok(Sheet(cells))
     }
 

@@ -23,6 +23,36 @@ extern "C" {
         cells: *mut u32,
         cells_len: usize,
     ) -> IcuAnswer;
+    fn icu_open_add(
+        owners: *mut u32,
+        owners_len: usize,
+        blocks: *mut u32,
+        blocks_len: usize,
+        office: u32,
+        entries: *const u32,
+        entries_len: usize,
+        place: *mut u32,
+    ) -> IcuAnswer;
+    fn icu_open_amend(
+        owners: *const u32,
+        owners_len: usize,
+        blocks: *mut u32,
+        blocks_len: usize,
+        office: u32,
+        site: u32,
+        entry: u32,
+        value: u32,
+    ) -> IcuAnswer;
+    fn icu_open_read(
+        owners: *const u32,
+        owners_len: usize,
+        blocks: *const u32,
+        blocks_len: usize,
+        office: u32,
+        site: u32,
+        sheet: *mut u32,
+        sheet_len: usize,
+    ) -> IcuAnswer;
     fn icu_study_check(file: *const u8, len: usize) -> IcuAnswer;
     fn icu_study_count(file: *const u8, len: usize) -> u32;
     fn icu_study_site(
@@ -75,6 +105,50 @@ pub fn diamond(record: &[u32], cells: &mut [u32]) -> Result<(), (u32, u32)> {
         0 => Ok(()),
         number => Err((number, answer.place)),
     }
+}
+
+/// Gives the place that the entries were put at.
+pub fn open_add(
+    owners: &mut [u32],
+    blocks: &mut [u32],
+    office: u32,
+    entries: &[u32],
+) -> Result<u32, Refusal> {
+    let (owned, places) = (owners.as_mut_ptr(), owners.len());
+    let (held, numbers) = (blocks.as_mut_ptr(), blocks.len());
+    let (list, len) = (entries.as_ptr(), entries.len());
+    let mut place = 0;
+    // SAFETY: all lists and the place are live for the call, of the lengths given, and apart.
+    let answer =
+        unsafe { icu_open_add(owned, places, held, numbers, office, list, len, &mut place) };
+    result(answer).map(|()| place)
+}
+
+pub fn open_amend(
+    owners: &[u32],
+    blocks: &mut [u32],
+    office: u32,
+    site: u32,
+    (entry, value): (u32, u32),
+) -> Result<(), Refusal> {
+    let (owned, places) = (owners.as_ptr(), owners.len());
+    let (held, numbers) = (blocks.as_mut_ptr(), blocks.len());
+    // SAFETY: both lists are live for the call, of the lengths given, and do not overlap.
+    result(unsafe { icu_open_amend(owned, places, held, numbers, office, site, entry, value) })
+}
+
+pub fn open_read(
+    owners: &[u32],
+    blocks: &[u32],
+    office: u32,
+    site: u32,
+    sheet: &mut [u32],
+) -> Result<(), Refusal> {
+    let (owned, places) = (owners.as_ptr(), owners.len());
+    let (held, numbers) = (blocks.as_ptr(), blocks.len());
+    let (cells, len) = (sheet.as_mut_ptr(), sheet.len());
+    // SAFETY: all three lists are live for the call, of the lengths given, and apart.
+    result(unsafe { icu_open_read(owned, places, held, numbers, office, site, cells, len) })
 }
 
 pub fn study_check(file: &[u8]) -> Result<(), Refusal> {

@@ -6,6 +6,8 @@ mod amend;
 #[cfg(feature = "diamond")]
 mod diamond;
 mod fill;
+#[cfg(feature = "open")]
+mod open;
 #[cfg(feature = "study")]
 mod study;
 
@@ -34,6 +36,8 @@ pub const CHECKS: &[(&str, usize, Check)] = &[
     ("study", 1, study::list),
     #[cfg(feature = "diamond")]
     ("diamond", 8, diamond::diamond),
+    #[cfg(feature = "open")]
+    ("open", 1, open::run_of_offices),
 ];
 
 /// A list that a call only reads must come back as it was.

@@ -2,6 +2,7 @@
 //! every history, amendments, and study files with every kind of damage.
 
 pub mod diamond;
+pub mod open;
 
 use crate::rules::{self, decay, kind_of, CELLS, CYCLE, ENTRIES, LAST, LIMITS, PAIRS, SITES};
 use std::sync::OnceLock;

@@ -6,4 +6,5 @@ pub mod diamond;
 pub mod generate;
 #[allow(unsafe_code)]
 pub mod library;
+pub mod open;
 pub mod rules;

@@ -1,4 +1,4 @@
-//! The library's C calls, each under a safe function of the same shape as its twin in `rules`.
+//! The library's C calls, each under a safe function of the same shape as its twin among the plain rules.
 //! A lent list passes as a pointer and then a length; the library keeps nothing after a call.
 
 use crate::rules::Answer;
@@ -66,6 +66,40 @@ extern "C" {
     ) -> IcuAnswer;
 }
 
+#[cfg(feature = "open")]
+extern "C" {
+    fn icu_open_add(
+        owners: *mut u32,
+        owners_len: usize,
+        blocks: *mut u32,
+        blocks_len: usize,
+        office: u32,
+        entries: *const u32,
+        entries_len: usize,
+        place: *mut u32,
+    ) -> IcuAnswer;
+    fn icu_open_amend(
+        owners: *const u32,
+        owners_len: usize,
+        blocks: *mut u32,
+        blocks_len: usize,
+        office: u32,
+        site: u32,
+        entry: u32,
+        value: u32,
+    ) -> IcuAnswer;
+    fn icu_open_read(
+        owners: *const u32,
+        owners_len: usize,
+        blocks: *const u32,
+        blocks_len: usize,
+        office: u32,
+        site: u32,
+        sheet: *mut u32,
+        sheet_len: usize,
+    ) -> IcuAnswer;
+}
+
 #[cfg(feature = "fill")]
 pub fn fill(entries: &[u32], sheet: &mut [u32]) -> Answer {
     // SAFETY: both lists are live for the call, of the lengths given, and do not overlap.
@@ -123,4 +157,49 @@ pub fn diamond(record: &[u32], cells: &mut [u32]) -> Answer {
     let (list, len) = (cells.as_mut_ptr(), cells.len());
     // SAFETY: both lists are live for the call, of the lengths given, and do not overlap.
     unsafe { icu_diamond(record.as_ptr(), record.len(), list, len) }.into()
+}
+
+#[cfg(feature = "open")]
+pub const OPEN: crate::open::Calls = crate::open::Calls {
+    add: open_add,
+    amend: open_amend,
+    read: open_read,
+};
+
+#[cfg(feature = "open")]
+fn open_add(
+    owners: &mut [u32],
+    blocks: &mut [u32],
+    office: u32,
+    entries: &[u32],
+    place: &mut u32,
+) -> Answer {
+    let (owned, places) = (owners.as_mut_ptr(), owners.len());
+    let (held, numbers) = (blocks.as_mut_ptr(), blocks.len());
+    let (list, len) = (entries.as_ptr(), entries.len());
+    // SAFETY: all lists and the place are live for the call, of the lengths given, and apart.
+    unsafe { icu_open_add(owned, places, held, numbers, office, list, len, place) }.into()
+}
+
+#[cfg(feature = "open")]
+fn open_amend(
+    owners: &[u32],
+    blocks: &mut [u32],
+    office: u32,
+    site: u32,
+    (entry, value): (u32, u32),
+) -> Answer {
+    let (owned, places) = (owners.as_ptr(), owners.len());
+    let (held, numbers) = (blocks.as_mut_ptr(), blocks.len());
+    // SAFETY: both lists are live for the call, of the lengths given, and do not overlap.
+    unsafe { icu_open_amend(owned, places, held, numbers, office, site, entry, value) }.into()
+}
+
+#[cfg(feature = "open")]
+fn open_read(owners: &[u32], blocks: &[u32], office: u32, site: u32, sheet: &mut [u32]) -> Answer {
+    let (owned, places) = (owners.as_ptr(), owners.len());
+    let (held, numbers) = (blocks.as_ptr(), blocks.len());
+    let (cells, len) = (sheet.as_mut_ptr(), sheet.len());
+    // SAFETY: all three lists are live for the call, of the lengths given, and apart.
+    unsafe { icu_open_read(owned, places, held, numbers, office, site, cells, len) }.into()
 }

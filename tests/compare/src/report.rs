@@ -1,14 +1,16 @@
 //! What is told: the counts at the end, and a difference with its input and both outputs.
 
 use crate::lent::{Canary, Lent};
-use compare::diamond;
 use compare::generate::picks;
-use compare::rules::{Answer, BLANK, FIRST_LINE, LAST, LINES, PAIRS};
+use compare::rules::{self, Answer, ACCEPTED, BLANK, ENTRIES, FIRST_LINE, LAST, LINES, PAIRS};
+use compare::rules::{NOLANE, RANGE, SHARED};
+use compare::{diamond, open};
 use std::collections::BTreeMap;
 use std::fmt::{Debug, Write};
 
-const NAMES: [&str; 9] = [
-    "accepted", "SIZE", "ENTRY", "RANGE", "SHARED", "NOLANE", "FILE", "STORE", "TRAVEL",
+const NAMES: [&str; 11] = [
+    "accepted", "SIZE", "ENTRY", "RANGE", "SHARED", "NOLANE", "FILE", "STORE", "TRAVEL", "OWNER",
+    "FULL",
 ];
 const APPROACHES: [&str; 4] = ["EB", "WB", "NB", "SB"];
 
@@ -21,6 +23,7 @@ pub struct Tally {
     blanks: [u64; 2],
     crossed: [u64; 2],
     diamonds: Diamonds,
+    opens: Opens,
 }
 
 /// The turns that interchanges took.
@@ -32,6 +35,16 @@ struct Diamonds {
     ties: [u64; 2],
     near: [u64; 2],
     equal: u64,
+}
+
+/// The turns that steps in open studies took.
+#[derive(Default)]
+struct Opens {
+    places: [u64; 3],
+    full_and_bad: u64,
+    strange: [u64; 4],
+    mended: u64,
+    read: [u64; 2],
 }
 
 impl Tally {
@@ -83,6 +96,59 @@ impl Tally {
         }
     }
 
+    /// Counts where an add went, and the bad entries that came to a full study.
+    #[cfg_attr(not(feature = "open"), allow(dead_code))]
+    pub fn added(&mut self, owners: &[u32], answer: Answer) {
+        const LAST: usize = open::PLACES - 1;
+        match (open::lowest_free(owners), answer.number) {
+            (Some(0), 0) => self.opens.places[0] += 1,
+            (Some(LAST), 0) => self.opens.places[2] += 1,
+            (Some(_), 0) => self.opens.places[1] += 1,
+            (None, RANGE | SHARED | NOLANE) => self.opens.full_and_bad += 1,
+            _ => {}
+        }
+    }
+
+    /// Counts why an office had no site where it asked for one.
+    #[cfg_attr(not(feature = "open"), allow(dead_code))]
+    pub fn had_none(&mut self, owners: &[u32], office: u32, site: u32) {
+        let why = match owners.get(site as usize) {
+            _ if office == open::FREE => 0,
+            None => 1,
+            Some(&open::FREE) => 2,
+            Some(_) => 3,
+        };
+        self.opens.strange[why] += 1;
+    }
+
+    /// Counts a block that an amendment made acceptable.
+    #[cfg_attr(not(feature = "open"), allow(dead_code))]
+    pub fn amended(&mut self, before: &[u32]) {
+        self.opens.mended += u64::from(rules::judge(before) != ACCEPTED);
+    }
+
+    /// Counts a site that was read, by whether this run had changed it before.
+    #[cfg_attr(not(feature = "open"), allow(dead_code))]
+    pub fn read(&mut self, changed: bool) {
+        self.opens.read[usize::from(changed)] += 1;
+    }
+
+    fn print_opens(&self) {
+        let counts = &self.opens;
+        println!(
+            "added at the first place, between, at the last: {:?}; bad entries to a full study: {}",
+            counts.places, counts.full_and_bad
+        );
+        println!(
+            "OWNER for no office, no such place, a free one, another's: {:?}",
+            counts.strange
+        );
+        println!(
+            "bad blocks put right: {}; read as they were lent, as added or amended: {:?}",
+            counts.mended, counts.read
+        );
+    }
+
     fn print_diamonds(&self) {
         let counts = &self.diamonds;
         println!("diamonds' letters A to H: {:?}", counts.letters);
@@ -119,6 +185,9 @@ impl Tally {
         println!("crossed with lefts alone, with nobody driving: {:?}", self.crossed);
         if self.diamonds.picked.iter().sum::<u64>() > 0 {
             self.print_diamonds();
+        }
+        if self.opens.read.iter().sum::<u64>() > 0 {
+            self.print_opens();
         }
     }
 }
@@ -174,6 +243,12 @@ pub fn diamond_cell(at: usize) -> String {
     }
 }
 
+/// What a number among an open study's blocks is.
+#[cfg_attr(not(feature = "open"), allow(dead_code))]
+pub fn block_entry(at: usize) -> String {
+    format!("place {} entry {}", at / ENTRIES, at % ENTRIES)
+}
+
 /// The text of a difference, or nothing where the two outcomes agree.
 pub fn compare<T: Canary + Debug>(
     input: &dyn Fn() -> String,
@@ -185,6 +260,20 @@ pub fn compare<T: Canary + Debug>(
 
 /// The same, with the names of the cells.
 pub fn compare_named<T: Canary + Debug>(
+    input: &dyn Fn() -> String,
+    ours: (Answer, &Lent<T>),
+    theirs: (Answer, &Lent<T>),
+    name: fn(usize) -> String,
+) -> Result<(), String> {
+    compare_long(input, ours, theirs, name).map_err(|mut text| {
+        let _ = writeln!(text, "rules' output:   {:?}", ours.1.part());
+        let _ = writeln!(text, "library's output: {:?}", theirs.1.part());
+        text
+    })
+}
+
+/// The same of lists too long to be shown whole.
+pub fn compare_long<T: Canary + Debug>(
     input: &dyn Fn() -> String,
     ours: (Answer, &Lent<T>),
     theirs: (Answer, &Lent<T>),
@@ -206,7 +295,5 @@ pub fn compare_named<T: Canary + Debug>(
     if !ours.1.same_around(theirs.1) {
         let _ = writeln!(text, "cells around the lent list were altered");
     }
-    let _ = writeln!(text, "rules' output:   {:?}", ours.1.part());
-    let _ = writeln!(text, "library's output: {:?}", theirs.1.part());
     Err(text)
 }

@@ -1,7 +1,8 @@
-//! Every figure the paper gives for K1 to K10, and its listing, against the plain rules.
+//! Every figure the paper gives for K1 to K10, its listing, the book's third example and two offices'
+//! steps in one study, against the plain rules.
 
-use compare::diamond;
 use compare::rules::*;
+use compare::{diamond, open};
 
 fn k1() -> [u32; ENTRIES] {
     let mut e = [0; ENTRIES];
@@ -266,4 +267,96 @@ fn refused_records() {
     let mut short = [7; 28];
     assert_eq!(diamond::diamond(&example_3(), &mut short).number, SIZE);
     assert_eq!(short, [7; 28]);
+}
+
+/// An open study, and what a call gives back of it.
+struct Shared {
+    owners: Vec<u32>,
+    blocks: Vec<u32>,
+    place: u32,
+}
+
+impl Shared {
+    /// Free places that hold anything.
+    fn new() -> Shared {
+        Shared {
+            owners: vec![0; open::PLACES],
+            blocks: vec![7; open::BLOCKS],
+            place: 999,
+        }
+    }
+
+    fn add(&mut self, office: u32, entries: &[u32]) -> (u32, u32) {
+        let (owners, blocks) = (&mut self.owners, &mut self.blocks);
+        let answer = open::add(owners, blocks, office, entries, &mut self.place);
+        (answer.number, answer.place)
+    }
+
+    fn amend(&mut self, office: u32, site: u32, entry: u32, value: u32) -> (u32, u32) {
+        let change = (entry, value);
+        let answer = open::amend(&self.owners, &mut self.blocks, office, site, change);
+        (answer.number, answer.place)
+    }
+
+    fn read(&self, office: u32, site: u32) -> Result<[u32; CELLS], (u32, u32)> {
+        let mut sheet = [5; CELLS];
+        let answer = open::read(&self.owners, &self.blocks, office, site, &mut sheet);
+        match answer {
+            ACCEPTED => Ok(sheet),
+            _ if sheet != [5; CELLS] => panic!("a refused read wrote the sheet"),
+            _ => Err((answer.number, answer.place)),
+        }
+    }
+}
+
+#[test]
+fn two_offices_in_one_study() {
+    let mut study = Shared::new();
+    assert_eq!((study.add(1, &k1()), study.place), ((0, 0), 0));
+    assert_eq!((study.add(2, &k2()), study.place), ((0, 0), 1));
+    assert_eq!((study.owners[..3]).to_vec(), [1, 2, 0]);
+    assert_eq!(
+        study.blocks[2 * ENTRIES..],
+        vec![7; open::BLOCKS][2 * ENTRIES..]
+    );
+    assert_eq!(study.amend(1, 0, 1, 59), (0, 0));
+    assert_eq!(study.read(1, 0), Ok(sheet(&with(k1(), &[(1, 59)]))));
+    assert_eq!(study.read(2, 1), Ok(sheet(&k2())));
+    assert_eq!(study.amend(2, 0, 1, 60), (open::OWNER, 0));
+    assert_eq!(study.read(1, 1), Err((open::OWNER, 1)));
+    // a place that became free is the lowest again
+    study.owners[0] = 0;
+    assert_eq!((study.add(u32::MAX, &k1()), study.place), ((0, 0), 0));
+    assert_eq!(study.read(1, 0), Err((open::OWNER, 0)));
+}
+
+#[test]
+fn refused_in_order() {
+    let mut study = Shared::new();
+    assert_eq!(study.add(1, &k1()), (0, 0));
+    let bad = with(k1(), &[(CYCLE, 29)]);
+    assert_eq!(study.add(0, &bad), (open::OWNER, 0));
+    assert_eq!(study.add(1, &bad), (RANGE, 80));
+    assert_eq!(study.add(0, &bad[..80]), (SIZE, 0));
+    for site in [1, 180, u32::MAX] {
+        assert_eq!(study.amend(1, site, CYCLE as u32, 29), (open::OWNER, site));
+        assert_eq!(study.amend(0, site, 81, 0), (ENTRY, 0));
+        assert_eq!(study.read(1, site), Err((open::OWNER, site)));
+        assert_eq!(study.read(0, site), Err((open::OWNER, site)));
+    }
+    assert_eq!(study.amend(1, 0, 60, 1), (SHARED, 0));
+    assert_eq!(study.amend(1, 0, 35, 0), (NOLANE, 7));
+    study.blocks[3] = 20_001;
+    assert_eq!(study.amend(1, 0, CYCLE as u32, 90), (RANGE, 3));
+    assert_eq!(study.read(1, 0), Err((RANGE, 3)));
+    assert_eq!(study.amend(1, 0, 3, 4_000), (0, 0));
+    study.owners.fill(9);
+    study.place = 999;
+    assert_eq!(study.add(1, &k1()), (open::FULL, 0));
+    assert_eq!(study.add(1, &bad), (RANGE, 80));
+    assert_eq!(study.place, 999);
+    study.owners.push(0);
+    assert_eq!(study.add(1, &k1()), (SIZE, 0));
+    assert_eq!(study.amend(9, 0, 81, 0), (SIZE, 0));
+    assert_eq!(study.read(9, 0), Err((SIZE, 0)));
 }

@@ -1,8 +1,7 @@
 -- A refusal of the cells or of the record is handed on and the cells kept; accepted, they are written.
 use Rattle.diamond_rules.specs.Record.{cellsSize, diamondAnswer}
 use Rattle.diamond_rules.specs.Lines.{diamond, rated}
-use Rattle.diamond_rules.proofs.Laws.{sized}
-use Rattle.answers.proofs.Laws.{handed-on, passed, kept, renewed}
+use Rattle.answers.proofs.Laws.{handed-on, passed, kept, renewed, sized}
 use mathlib.Core.Path.{_≡_, sym, _∙_}
 use denote.Ref.{now}
 use borrow.Author.Needs.{needs}

@@ -1,7 +1,6 @@
 -- The size first, since the rest is read by its places; then the junctions, then the record's own numbers.
 use Rattle.diamond_rules.specs.Record.{judgedRecord, recordSize}
-use Rattle.diamond_rules.proofs.Laws.{sized}
-use Rattle.answers.proofs.Laws.{handed-on, passed}
+use Rattle.answers.proofs.Laws.{handed-on, passed, sized}
 use mathlib.Core.Path.{_≡_, sym, _∙_}
 use borrow.Author.Needs.{needs}
 use Rattle.diamond_judging.proofs.judge.Statement.{statement}

@@ -1,53 +1,27 @@
--- Each way to return is a case of the definition: a title, then an entry under it, then the entry's value by its kind.
-use Rattle.program_changes.specs.Changes.{verdictFor, verdictOf}
-use Rattle.program_changes.proofs.Laws.{verdict-named}
-use denote.Ref.{now}
-use mathlib.Core.Path.{_≡_, refl}
-use borrow.Author.Tests.{le-leb, lt-leb, eq-eqb, ne-eqb}
+-- `program_changes::change`. What the words ask for is tried; where one of them is wrong, nothing is.
+use Rattle.program_changes.specs.Changes.{verdictOf}
+use mathlib.Core.Path.{refl, sym, _∙_}
 use borrow.Author.Needs.{needs}
 use Rattle.program_changes.proofs.change.Statement.{statement}
 use Rattle.program_changes.proofs.change.Tie as tie
 
+try-entry-requires : tie.Need-try-entry-requires
+try-entry-requires c κs =
+    let told = c .before .before in
+    rw (told .entry .given .1) at (told .before .before .asked-by .ensures .1)
+
 returns : tie.Need-returns
 unfolding verdictOf
-returns c = (rw (← c .before .row-of .ensures .0, le-leb _ _ (c .if1 .taken)), refl)
+returns c =
+    let told = c .before .before .before in
+    let is = sym (told .before .before .asked-by .ensures .0) ∙ told .entry .given .1 in
+    (rw is (c .try-entry .ensures .0), c .try-entry .ensures .1)
 
 returns-2 : tie.Need-returns-2
 unfolding verdictOf
 returns-2 c =
-    let named = c .before in
-    let test = named .before in (
-      rw (
-        ← named .entry-named .ensures .0,
-        ← test .before .row-of .ensures .0,
-        lt-leb _ _ (test .if1 .left),
-        eq-eqb _ _ (c .if2 .taken),
-      ),
-      refl,
-    )
-
--- an entry that is named has the verdict of its value
-named-at : (read : tie.After-value-of)
-    → let a = read .before .before .before .before .before .before .before .before .before .args in
-    verdictOf (now (a .title)) (now (a .kind)) (now (a .value)) (now (a .entries))
-    ≡ verdictFor (read .before .before .before .entry-named .result) (read .value-of .result) (now (a .entries))
-named-at read =
-    let found = read .before .before in
-    let named = found .before in
-    let test = named .before in
-    verdict-named _ _ _ _ (test .before .row-of .ensures .0) (lt-leb _ _ (test .if1 .left)) (named .entry-named .ensures .0)
-    (ne-eqb _ _ (found .if2 .left)) (read .before .at .ensures) (read .value-of .ensures)
-
-returns-3 : tie.Need-returns-3
-returns-3 c =
-    let told = c .before .before .before in
-    (rw (named-at (told .before .before), told .word .given .1) (c .try-entry .ensures .0), c .try-entry .ensures .1)
-
-returns-4 : tie.Need-returns-4
-returns-4 c = (rw (named-at (c .before .before .before), c .before .word2 .given .1), refl)
+    let is = sym (c .before .before .before .asked-by .ensures .0) ∙ c .before .wrong .given .1 in
+    (rw is, refl)
 
 pub change-spec : {M : Type 1} → statement M
-change-spec =
-    tie.close
-    (tie.spec (search needs) returns (search needs) returns-2 (search needs) (search needs) (search needs) (search needs) (search needs)
-    (search needs) returns-3 returns-4)
+change-spec = tie.close (tie.spec (search needs) (search needs) try-entry-requires (search needs) returns returns-2)

@@ -1,4 +1,4 @@
--- A row of the definition for each verdict, and the word that it is about.
+-- A row of the definition for each verdict.
 use Rattle.program_changes.specs.Changes.{verdictText}
 use Rattle.text.proofs.Laws.{placed-nothing}
 use borrow.Author.Needs.{needs}
@@ -15,24 +15,7 @@ returns-2 c = rw (c .before .before .before .verdict .given .1) (c .say-answer .
 
 returns-3 : tie.Need-returns-3
 unfolding verdictText
-returns-3 c =
-    let word = c .before .before in
-    rw (word .before .enum-told2 .given .1) (rw (word .word-of .ensures) at (c .say .ensures))
-
-returns-4 : tie.Need-returns-4
-unfolding verdictText
-returns-4 c =
-    let word = c .before .before in
-    rw (word .before .enum-told3 .given .1) (rw (word .word-of2 .ensures) at (c .say2 .ensures))
-
-returns-5 : tie.Need-returns-5
-unfolding verdictText
-returns-5 c =
-    let word = c .before .before in
-    rw (word .before .before .verdict2 .given .1) (rw (word .word-of3 .ensures) at (c .say-trouble .ensures))
+returns-3 c = rw (c .before .before .before .verdict2 .given .1) (c .say-wrong-in .ensures)
 
 pub say-verdict-spec : {M : Type 1} → statement M
-say-verdict-spec =
-    tie.close
-    (tie.spec (search needs) (search needs) (search needs) (search needs) (search needs) (search needs) (search needs) (search needs)
-    (search needs) (search needs) (search needs) (search needs) returns returns-2 returns-3 returns-4 returns-5)
+say-verdict-spec = tie.close (tie.spec (search needs) (search needs) (search needs) (search needs) (search needs) returns returns-2 returns-3)

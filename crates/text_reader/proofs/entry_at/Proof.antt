@@ -12,5 +12,5 @@ pub entry-at-spec : {M : Type 1} → statement M
 entry-at-spec =
     tie.close
     (tie.spec (search needs) (search needs) (search needs) (search needs) (search needs) (search needs) (search needs)
-    (search needs) (search needs) (search needs) (search needs) returns returns-2 (λ c. search needs) (λ c. search needs)
-    (λ c. search needs) (λ c. search needs))
+    (search needs) (search needs) (search needs) (search needs) (search needs) returns returns-2 (λ c. search needs)
+    (λ c. search needs) (λ c. search needs) (λ c. search needs) (λ c. search needs))

@@ -21,8 +21,10 @@ put-why-spec =
     tie.close
     (tie.spec (search needs) (search needs) (search needs) (search needs) (search needs) (search needs) (search needs) (search needs)
     (search needs) (search needs) (search needs) (search needs) (search needs) (search needs) (search needs) (search needs) (search needs)
-    (search needs) (search needs) (search needs) (search needs) (search needs) (search needs) (search needs)
+    (search needs) (search needs) (search needs) (search needs) (search needs) (search needs) (search needs) (search needs) (search needs)
+    (search needs) (search needs) (search needs) (search needs)
     (λ c. (search why-placed, search needs)) (search needs) (λ c. (search why-placed, search needs)) (search needs)
     (λ c. (search why-placed, search needs)) (search needs) shared (search needs) (λ c. (search why-placed, search needs)) (search needs)
+    (λ c. (search why-placed, search needs)) (search needs) (λ c. (search why-placed, search needs)) (search needs)
     (λ c. (search why-placed, search needs)) (search needs) (λ c. (search why-placed, search needs)) (search needs)
     (λ c. (search why-placed, search needs)))
