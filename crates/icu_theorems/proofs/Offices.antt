@@ -7,7 +7,6 @@ use Prim.Native.Nat.{ℕ, _<_}
 use native.Mathlib.Omega.{arith}
 use lib.Dec.{eqb}
 use lib.ListN.{length, getD}
-use borrow.Author.Tests.{eq-eqb}
 use Rattle.answers.specs.Answers.{_then_, left-by, numberOf, refusalNumber}
 use Rattle.answers.specs.declared.Refusal.the-variants.{Owner, Full}
 use Rattle.answers.specs.declared.Answer.the-variants.{Accepted, Refused}
@@ -20,7 +19,7 @@ use Rattle.amend_sets.specs.Amend.{entryAnswer, entriesBy, amendedBy}
 use Rattle.amend_sets.proofs.Runs.{run-is-fresh}
 use Rattle.open_rules.specs.Open.{Study, study, free, owns, studySize, lowestFree, mayAdd, addAnswer, withSite, added, addedPlace}
 use Rattle.open_rules.specs.Open.{withEntry, amendSiteAnswer, amendedBlocks, readAnswer, readSheet, blockAt}
-use Rattle.open_rules.proofs.Laws.{adds, whole, whole-accepted, own-accepted, lowest-free, lower-taken, not-own-refused}
+use Rattle.open_rules.proofs.Laws.{adds, whole, read-judged, lowest-free, lower-taken, not-own-refused}
 use Rattle.open_theorems.specs.Calls.{Call, Add, Amend, Read, Output, isOf, next, output, own, revealed, changesOf}
 use Rattle.open_theorems.specs.Working.{after, outputs}
 use Rattle.open_theorems.specs.Separation.{Alike}
@@ -148,9 +147,7 @@ owner-reading S o s d allowed whole sheet other =
 
 -- T3: demand 3 of each site, from any start ..
 answered : (S : Study) (o s : ℕ) (e d : List ℕ) → Site o s S e → length d ≡ sheetCount → readAnswer S o s d ≡ judged e
-unfolding readAnswer sheetAnswer
-answered S o s e d at cells =
-    rw (whole-accepted S (at .study), eq-eqb (length d) sheetCount cells, own-accepted (S .owners) o s (at .own), at .entries)
+answered S o s e d at cells = read-judged S o s d (at .study) (at .own) cells ∙ ap judged (at .entries)
 
 pub site-from-any-start :
     (o s : ℕ) (S : Study) (run : List Call) (end : Study) (heard : List Heard) (d : List ℕ) {two : IcuAnswer} {cells : List ℕ}

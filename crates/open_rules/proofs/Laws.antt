@@ -218,3 +218,10 @@ pub read-accepted : (S : Study) (office s : ℕ) (d : List ℕ) → Reads S offi
 unfolding readAnswer sheetAnswer
 read-accepted S office s d r =
     rw (whole-accepted S (r .study), eq-eqb _ _ (r .cells), own-accepted (S .owners) office s (r .own)) (r .fine)
+
+-- of an office's own site a reading is judged by the block alone
+pub read-judged :
+    (S : Study) (office s : ℕ) (d : List ℕ) → Whole S → owns (S .owners) office s ≡ true → length d ≡ sheetCount
+    → readAnswer S office s d ≡ judged (blockAt (S .blocks) s)
+unfolding readAnswer sheetAnswer
+read-judged S office s d study own cells = rw (whole-accepted S study, eq-eqb _ _ cells, own-accepted (S .owners) office s own)

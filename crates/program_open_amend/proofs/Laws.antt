@@ -15,7 +15,7 @@ use Rattle.sheet_cells.specs.Cells.{sheetAnswer}
 use Rattle.page.specs.Worksheet.{changeText}
 use Rattle.open_rules.specs.Open.{Study, study, blockAt, withEntry, amendSiteAnswer, amendedBlocks, readAnswer, readSheet}
 use Rattle.open_rules.proofs.Blocks.{amended-block}
-use Rattle.open_rules.proofs.Laws.{Amends, amends, whole-accepted, own-accepted, read-accepted}
+use Rattle.open_rules.proofs.Laws.{Amends, amends, read-accepted, read-judged}
 use Rattle.program_amend.specs.Run.{sheetBefore}
 use Rattle.program_amend.proofs.Laws.{left-twice}
 use Rattle.program_open.specs.Opening.{blankSheet}
@@ -36,8 +36,7 @@ module _ (S : Study) (office s i v : ℕ) (accepted : amendSiteAnswer S office s
   block = rw written (amended-block (S .blocks) s i v (known .entry))
 
   read-before : (d : List ℕ) → length d ≡ sheetCount → readAnswer S office s d ≡ judged (blockAt (S .blocks) s)
-  unfolding readAnswer sheetAnswer
-  read-before d size = rw (whole-accepted S (known .study), eq-eqb _ _ size, own-accepted (S .owners) office s (known .own))
+  read-before d size = read-judged S office s d (known .study) (known .own) size
 
   read-after : (d : List ℕ) → length d ≡ sheetCount
       → readSheet (study (S .owners) (amendedBlocks S office s i v)) office s d ≡ sheet (set (blockAt (S .blocks) s) i v)
