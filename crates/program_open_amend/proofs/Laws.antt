@@ -4,14 +4,12 @@ use Prim.Native.Nat.{ℕ}
 use mathlib.Core.Path.{_≡_, refl, _∙_}
 use mathlib.Core.List.{List, []}
 use lib.ListN.{length, set, length-set}
-use borrow.Author.Tests.{eq-eqb}
 use Rattle.answers.specs.Answers.{left-by}
 use Rattle.answers.specs.declared.Answer.the-variants.{Accepted}
 use Rattle.layout.specs.Open.{blocksCount, blockPlace}
 use Rattle.layout.specs.Sheet.{sheetCount}
 use Rattle.entries.specs.Judging.{judged}
 use Rattle.procedure.specs.Sheet.{sheet}
-use Rattle.sheet_cells.specs.Cells.{sheetAnswer}
 use Rattle.page.specs.Worksheet.{changeText}
 use Rattle.open_rules.specs.Open.{Study, study, blockAt, withEntry, amendSiteAnswer, amendedBlocks, readAnswer, readSheet}
 use Rattle.open_rules.proofs.Blocks.{amended-block}
