@@ -2,6 +2,7 @@
 
 #![forbid(unsafe_code)]
 
+mod decay;
 mod junctions;
 mod open;
 mod steps;
@@ -56,7 +57,7 @@ fn row(name: &str, times: Times) {
         number.map_or_else(|| "-".to_string(), |number| format!("{number:.digits$}"))
     };
     let (library, ratio) = (shown(times.library, 1), shown(times.ratio, 2));
-    println!("{name:<32}{library:>12}{:>12.1}{ratio:>9}", times.rust);
+    println!("{name:<36}{library:>12}{:>12.1}{ratio:>9}", times.rust);
 }
 
 fn filling(call: Fill, mix: &[Entries]) -> Work<'_> {
@@ -165,7 +166,7 @@ fn main() {
         .flat_map(|(x, y)| [*x, *y])
         .collect();
     println!(
-        "{:<32}{:>12}{:>12}{:>9}",
+        "{:<36}{:>12}{:>12}{:>9}",
         "ns per call, medians", "library", "Rust", "ratio"
     );
     time_fill("fill, no pedestrians", &quiet, rounds);
@@ -188,4 +189,5 @@ fn main() {
         time_record_in_fills(&records, rounds);
     }
     open::time(&mut rng, &mix, rounds);
+    decay::time(&mut rng, rounds);
 }

@@ -3,11 +3,10 @@ ghost use mathlib.Core.Path.{_≡_};
 ghost use Prim.Native.Nat.{_*_, _≤_};
 ghost use lib.Dec.{eqb};
 ghost use Rattle.units.specs.Rounding.{up};
-ghost use Rattle.kinds.specs.declared.Group.the-variants.{Through, Right};
 ghost use Rattle.kinds.specs.declared.Kind.the-variants.{Pedestrians as Walkers};
 ghost use Rattle.kinds.specs.Kinds.{Within};
 ghost use Rattle.procedure.specs.Ranges.{Fair, FairCycle};
-ghost use Rattle.procedure.specs.Lines.{G, interference, frequency};
+ghost use Rattle.procedure.specs.Lines.{G, frequency};
 ghost use Rattle.line_bounds.specs.Bounds.{mostVolume, mostHeld};
 ghost use Rattle.line_stages.specs.Stages.{volumesOf, walkingOf};
 use kinds::Cycle;
@@ -40,31 +39,6 @@ fn share(part: Ms, some: Vph, volume: Vph) -> Ms
     Ms(units::divide_up(part.0 as u64 * some.0 as u64, volume.0 as u64) as u32)
 }
 
-// Line 10: all of it falls to the right lanes, where there are any.
-fn right_interference(s: Approach, cycle: Cycle) -> Ms
-    requires { ⌜ Fair s × FairCycle (cycle .0) ⌝ }
-    ensures { λ r. ⌜ r .0 ≡ interference s Right (cycle .0) ⌝ }
-{
-    if s.right.lanes.0 == 0 {
-        return Ms(0);
-    }
-    walkers_part(s.walkers, cycle)
-}
-
-// Line 11: without right lanes the through lanes bear it, by the share of the rights in them.
-fn through_interference(s: Approach, v: Volumes, cycle: Cycle) -> Ms
-    requires { ⌜ Fair s × (v ≡ volumesOf s) × FairCycle (cycle .0) ⌝ }
-    ensures { λ r. ⌜ r .0 ≡ interference s Through (cycle .0) ⌝ }
-{
-    if 0 < s.right.lanes.0 {
-        return Ms(0);
-    }
-    if s.right.volume.0.0 == 0 {
-        return Ms(0);
-    }
-    share(walkers_part(s.walkers, cycle), s.right.volume.0, v.through)
-}
-
 // Line 12: how often there are walkers in a cycle, in ten-thousandths.
 fn walkers_frequency(p: Pedestrians, button: PushButton, cycle: Cycle) -> u32
     requires { ⌜ (Within Walkers (p .0)) × (FairCycle (cycle .0)) ⌝ }
@@ -79,14 +53,31 @@ fn walkers_frequency(p: Pedestrians, button: PushButton, cycle: Cycle) -> u32
     units::WHOLE - (line_decay::decay_number(2 * p.0 as u64 * cycle.0 as u64) / 100_000) as u32
 }
 
-// Lines 10–12.
+// Lines 10–12. G is asked for once: the right lanes bear it, or without them the through lanes, by the share of the rights in them.
 pub fn walking_of(s: Approach, v: Volumes, cycle: Cycle) -> Walking
     requires { ⌜ Fair s × (v ≡ volumesOf s) × FairCycle (cycle .0) ⌝ }
     ensures { λ r. ⌜ r ≡ walkingOf s (cycle .0) ⌝ }
 {
+    let frequency = walkers_frequency(s.walkers, s.button, cycle);
+    let rights = s.right.volume.0;
+    if s.right.lanes.0 + rights.0 == 0 {
+        return Walking {
+            right: Ms(0),
+            through: Ms(0),
+            frequency,
+        };
+    }
+    let part = walkers_part(s.walkers, cycle);
+    if 0 < s.right.lanes.0 {
+        return Walking {
+            right: part,
+            through: Ms(0),
+            frequency,
+        };
+    }
     Walking {
-        right: right_interference(s, cycle),
-        through: through_interference(s, v, cycle),
-        frequency: walkers_frequency(s.walkers, s.button, cycle),
+        right: Ms(0),
+        through: share(part, rights, v.through),
+        frequency,
     }
 }

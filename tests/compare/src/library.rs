@@ -66,6 +66,11 @@ extern "C" {
     ) -> IcuAnswer;
 }
 
+#[cfg(feature = "decay")]
+extern "C" {
+    fn icu_decay_number(m: u64) -> u64;
+}
+
 #[cfg(feature = "open")]
 extern "C" {
     fn icu_open_add(
@@ -157,6 +162,12 @@ pub fn diamond(record: &[u32], cells: &mut [u32]) -> Answer {
     let (list, len) = (cells.as_mut_ptr(), cells.len());
     // SAFETY: both lists are live for the call, of the lengths given, and do not overlap.
     unsafe { icu_diamond(record.as_ptr(), record.len(), list, len) }.into()
+}
+
+#[cfg(feature = "decay")]
+pub fn decay_number(m: u64) -> u64 {
+    // SAFETY: it takes a number and gives one.
+    unsafe { icu_decay_number(m) }
 }
 
 #[cfg(feature = "open")]

@@ -115,8 +115,9 @@ fn laneless(entries: &[u32; ENTRIES], a: usize) -> Option<u32> {
 
 // ---------------------------------------------------------------- the lines
 
-/// The decay number: e^(-m/7200) in billionths, by the rule's own roundings.
-pub fn decay(m: u64) -> u64 {
+/// The decay number: e^(-m/7200) in billionths, by the rule's own roundings; with STOP the terms end at the first that is 0.
+#[inline]
+fn decay_number<const STOP: bool>(m: u64) -> u64 {
     if m >= 115_200 {
         return 0;
     }
@@ -125,12 +126,31 @@ pub fn decay(m: u64) -> u64 {
     // A half-open range unrolls, and every division is then by a constant.
     for k in 1..13u64 {
         term = term * r / (7_200 * k);
+        if STOP && term == 0 {
+            break;
+        }
         sum = if k % 2 == 1 { sum - term } else { sum + term };
     }
     for _ in 0..times {
         sum = sum * 367_879_441 / 1_000_000_000;
     }
     sum
+}
+
+/// The decay number, all twelve terms worked out.
+pub fn decay_of_all_terms(m: u64) -> u64 {
+    decay_number::<false>(m)
+}
+
+/// The decay number, worked out up to the first term that is 0.
+pub fn decay_with_a_stop(m: u64) -> u64 {
+    decay_number::<true>(m)
+}
+
+/// The decay number as the lines ask for it; the feature `stop` is for timing.
+#[inline]
+pub fn decay(m: u64) -> u64 {
+    decay_number::<{ cfg!(feature = "stop") }>(m)
 }
 
 /// The entries of one movement.

@@ -1,11 +1,12 @@
 -- Past the last fold it is 0; else each turn of the loop fades once more.
+use Rattle.line_decay.proofs.Laws.{summed}
 use Rattle.line_decay.specs.Decay.{faded, decayNumber}
 use borrow.Author.Needs.{needs}
 use borrow.Author.Tests.{le-leb, lt-leb}
 use native.Mathlib.Numerals.{add-one}
 use native.Mathlib.Omega.{arith}
-use mathlib.Core.Path.{_≡_, _∙_}
-use Prim.Native.Nat.{_-_, _/_, _≤_}
+use mathlib.Core.Path.{_≡_, refl, _∙_}
+use Prim.Native.Nat.{_-_, _/_, _%_, _≤_}
 use Rattle.line_decay.proofs.decay_number.Statement.{statement}
 use Rattle.line_decay.proofs.decay_number.Tie as tie
 
@@ -21,7 +22,9 @@ returns c = (rw (le-leb _ _ (c .if1 .taken)), search needs)
 
 loop-holds : tie.Need-loop-holds Inv-loop μ-loop
 unfolding faded
-loop-holds c = search needs
+loop-holds c =
+    let r = c .before .before .args .m % 7200 in
+    (search needs, omega (arith, c .series .ensures, summed r (omega arith) 6 .high), refl)
 
 loop-again : tie.Need-loop-again Inv-loop μ-loop
 unfolding faded
@@ -36,5 +39,5 @@ returns-2 c =
 pub decay-number-spec : {M : Type 1} → statement M
 decay-number-spec =
     tie.close
-    (tie.spec Inv-loop μ-loop returns (search needs) loop-holds (search needs) (search needs) (search needs)
-    loop-again returns-2)
+    (tie.spec Inv-loop μ-loop returns (search needs) (search needs) loop-holds (search needs) (search needs) (search needs)
+    loop-again (search needs) returns-2)
