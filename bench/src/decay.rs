@@ -91,7 +91,7 @@ fn apart(call: Decay, all: &[u64]) -> Work<'_> {
 /// Each waits for the last: what a processor takes that does not work ahead.
 fn in_turn(call: Decay, all: &[u64]) -> Work<'_> {
     let call = black_box(call);
-    // No decay number has the top bit; only a processor that has it can tell.
+    // No decay number has the top bit, so 0 is added; but a processor knows that only once it has the number.
     Box::new(move || all.iter().fold(0, |last, m| call(*m + (last >> 63))) as usize)
 }
 

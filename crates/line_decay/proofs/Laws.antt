@@ -81,7 +81,7 @@ ends r j m h e =
     let all : j + (m - j) ≡ m = omega arith in
     rw all at (sum-stays r j (m - j) e)
 
--- a stop where a turn leaves the sum as it was would be the same stop: only terms of 0 do so
+-- a stop once a turn has left the sum as it was would give the same sum, a pair of terms later: only terms of 0 leave it so
 pub still-is-zero : (r j : ℕ) → r < 7200 → turns r (j + 1) ≡ turns r j → term r (2 * j + 1) ≡ 0
 still-is-zero r j h e =
     let o = term r (2 * j + 1) in
