@@ -3,8 +3,9 @@
  * fills a worksheet, amends it, rates a diamond interchange, keeps the sites of several offices apart in
  * one open study, and reads, writes and lists study files.
  *
- * All numbers are whole. Volumes and flows are vehicles per hour, times milliseconds, the cycle
- * seconds, factors and shares ten-thousandths, the ICU tenths of a percent.
+ * All numbers are whole. Volumes and the ideal flow of a lane, which are entries, are vehicles per hour;
+ * the flows that the lines give are tenths of a vehicle per hour (18050 is 1,805.0 an hour); times are
+ * milliseconds, the cycle seconds, factors and shares ten-thousandths, the ICU tenths of a percent.
  *
  * A list passes as a pointer and the number of its elements. Lists are lent for the call only;
  * nothing is kept afterwards. A pointer may be null where its length is 0, and nowhere else; lists
@@ -30,10 +31,13 @@ extern "C" {
 /* The version: a change of the first number changes what programs may rely on, a change of the
  * second what the same entries may give or what calls there are. 1.1: those who cross have their time
  * where nobody drives. 1.2: icu_diamond; all other calls give what they gave. 1.3: icu_open_add,
- * icu_open_amend, icu_open_read; all other calls give what they gave. */
-#define ICU2003_VERSION_MAJOR 1
-#define ICU2003_VERSION_MINOR 3
-#define ICU2003_VERSION "1.3"
+ * icu_open_amend, icu_open_read; all other calls give what they gave. 2.0: lines 5 to 9 and 22 are tenths
+ * of a vehicle per hour, where they were whole ones, and the times that come from them are the finer for
+ * it. Entries, and so study files, are what they were; a sheet that an earlier version filled is to be
+ * filled again before it is amended, or its flows stand in two units. */
+#define ICU2003_VERSION_MAJOR 2
+#define ICU2003_VERSION_MINOR 0
+#define ICU2003_VERSION "2.0"
 
 /* ------------------------------------------------------------------ answers */
 
@@ -73,7 +77,7 @@ enum { ICU_LEFT = 0, ICU_THROUGH = 1, ICU_RIGHT = 2 };
 /* Places of movement m's entries: 5m + j. */
 #define ICU_LANES(m) (5 * (m))             /* 0 to 6 */
 #define ICU_VOLUME(m) (5 * (m) + 1)        /* 0 to 9,999 vehicles per hour */
-#define ICU_IDEAL_FLOW(m) (5 * (m) + 2)    /* 1,000 to 2,400, usually 1,900 */
+#define ICU_IDEAL_FLOW(m) (5 * (m) + 2)    /* 1,000 to 2,400 vehicles per hour, usually 1,900 */
 #define ICU_LOST_TIME(m) (5 * (m) + 3)     /* 0 to 20,000 ms */
 #define ICU_MINIMUM_GREEN(m) (5 * (m) + 4) /* 0 to 60,000 ms */
 
@@ -102,7 +106,7 @@ enum {
     ICU_THROUGH_VOLUME = 2,       /* vehicles per hour */
     ICU_RIGHT_VOLUME = 3,         /* vehicles per hour */
     ICU_TURNING_FACTOR = 4,       /* of the through lanes, ten-thousandths */
-    ICU_LEFT_FLOW = 5,            /* saturation flows, vehicles per hour */
+    ICU_LEFT_FLOW = 5,            /* lines 5 to 9: saturation flows, tenths of a vehicle per hour */
     ICU_THROUGH_FLOW = 6,
     ICU_RIGHT_FLOW = 7,
     ICU_STRAIGHT_FLOW = 8,        /* of the through lanes without folded lefts */
@@ -119,7 +123,7 @@ enum {
     ICU_HEAVIEST_LANE = 19,       /* volume of the left lane, vehicles per hour */
     ICU_LEFT_SHARE = 20,          /* share of lefts in it, ten-thousandths */
     ICU_LEFT_EQUIVALENT = 21,     /* through-vehicle equivalent of a left, ten-thousandths */
-    ICU_LEFT_LANE_SATURATION = 22, /* flow of the left lane, vehicles per hour */
+    ICU_LEFT_LANE_SATURATION = 22, /* flow of the left lane, tenths of a vehicle per hour */
     ICU_OPTION_A = 23,            /* permitted times by options A and B, ms or ICU_BLANK */
     ICU_OPTION_B = 24,
     ICU_PERMITTED_REFERENCE = 25, /* the lesser of the two, ms or ICU_BLANK */
@@ -127,6 +131,9 @@ enum {
     ICU_SPLIT_REFERENCE = 27,     /* ms */
     ICU_SPLIT_ADJUSTED = 28       /* ms */
 };
+
+/* How many of a flow's parts make a vehicle per hour, in lines 5 to 9 and 22. */
+#define ICU_FLOW_UNIT 10
 
 /* Four cells of each pair of approaches: totals in ms, and the index of the least. */
 #define ICU_PAIR_EB_WB 193

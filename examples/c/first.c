@@ -7,6 +7,7 @@
  * prints
  *
  *     ICU 66.6 %, letter C
+ *     the left lane from the west carries 1805.0 vehicles per hour
  *     with 600 through westbound: ICU 77.1 %, letter D
  */
 #include <stdio.h>
@@ -41,6 +42,13 @@ static void print_rating(const uint32_t sheet[ICU_CELLS])
     printf("ICU %u.%u %%, letter %c\n", icu / 10, icu % 10, (char)('A' + sheet[ICU_LETTER]));
 }
 
+/* A flow is counted in parts of a vehicle per hour; volumes and ideal flows are whole. */
+static void print_flow(uint32_t flow)
+{
+    unsigned tenths = (unsigned)flow;
+    printf("the left lane from the west carries %u.%u vehicles per hour\n", tenths / ICU_FLOW_UNIT, tenths % ICU_FLOW_UNIT);
+}
+
 static int refused(IcuAnswer answer)
 {
     if (answer.number != ICU_ACCEPTED)
@@ -57,6 +65,7 @@ int main(void)
     if (refused(icu_fill(entries, ICU_ENTRIES, sheet, ICU_CELLS)))
         return 1;
     print_rating(sheet);
+    print_flow(sheet[ICU_LINE(ICU_EB, ICU_LEFT_FLOW)]);
 
     uint32_t count = ICU_VOLUME(ICU_MOVEMENT(ICU_WB, ICU_THROUGH));
     if (refused(icu_amend(sheet, ICU_CELLS, count, 600)))

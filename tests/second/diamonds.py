@@ -189,7 +189,7 @@ SIDE_ROWS = (
     (("", "free right", "8", "n"), RIGHT, by_approach(4)), (("", "ideal flow", "9", "v"), ALL, by_entry(2)),
     (("", "storage", "10", "n"), STORE, by_storage(OWN)), (("", "lost time", "11", "s"), ALL, by_entry(3)),
     (("", "minimum green", "12", "s"), ALL, by_entry(4)), (("1", "volume combined", "16", "v"), ALL, by_line(1)),
-    (("4", "turning factor", "18", "f"), THROUGH, by_line(4, False)), (("5", "flow", "19", "v"), ALL, by_line(5)),
+    (("4", "turning factor", "18", "f"), THROUGH, by_line(4, False)), (("5", "flow", "19", "V"), ALL, by_line(5)),
     (("10", "interference, right", "20", "s"), RIGHT, by_line(10, False)),
     (("11", "interference, through", "20", "s"), THROUGH, by_line(11, False)),
     (("12", "pedestrian frequency", "21", "f"), THROUGH, by_line(12, False)),

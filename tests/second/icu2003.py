@@ -1,10 +1,12 @@
 """ICU 2003 worked out a second time, in plain Python, to compare with the proved worksheet.
 
-Written from the rules alone. Whole numbers only: flows in vehicles per hour, factors and
-shares in ten-thousandths, times in milliseconds, the cycle in seconds.
+Written from the rules alone. Whole numbers only: volumes and ideal flows in vehicles per hour,
+flows that are worked out (lines 5 to 9 and 22, L's own sA, sB) in tenths of a vehicle per hour,
+factors and shares in ten-thousandths, times in milliseconds, the cycle in seconds.
 """
 
 BLANK = 4294967295  # stands where an option is not allowed
+FLOW_UNIT = 10  # so many of a flow's units are one vehicle per hour: a flow is worked out in tenths
 
 L, T, R = 0, 1, 2  # the three groups of an approach
 OPENING = b"ICUS"
@@ -105,10 +107,10 @@ def lane_factor(g, n):
 
 
 def flow(leg, g, n, f):
-    """Saturated flow of n lanes of group g with turning factor f."""
+    """Saturated flow of n lanes of group g with turning factor f, in tenths."""
     if n == 0:
         return 0
-    return leg.ideal[g] * n * lane_factor(g, n) * f // 10**7
+    return FLOW_UNIT * leg.ideal[g] * n * lane_factor(g, n) * f // 10**7
 
 
 def folded_right(leg):
@@ -132,8 +134,8 @@ def empty(leg):
 
 
 def serve(leg, v, s):
-    """Time in which v vehicles an hour pass at flow s; nothing for nobody, even without lanes."""
-    return up(1000 * v * leg.cl, s) if v > 0 else 0
+    """Time in which v vehicles an hour pass at flow s, which is in tenths; nothing for nobody, even without lanes."""
+    return up(1000 * FLOW_UNIT * v * leg.cl, s) if v > 0 else 0
 
 
 def interference(leg):
@@ -302,7 +304,7 @@ def line_21(leg):
 
 
 def left_lane_flow(s, n, q, e):
-    """sA: flow of the left lane of n lanes with flow s; e may be under 10,000."""
+    """sA: flow of the left lane of n lanes with flow s, in s's unit; e may be under 10,000."""
     factor = 10**12 // (10**8 + q * (e - 10**4))
     return s * factor // (n * 10**4)
 
@@ -352,7 +354,7 @@ def b_through(leg):
     if leg.line[2] == 0:
         return 0
     n, s_st = leg.n[T], leg.line[8]
-    s_b = leg.line[6] * (n - 1) // n if leg.shared else leg.line[6]
+    s_b = leg.line[6] * (n - 1) // n if leg.shared else leg.line[6]  # in tenths as s_st is, so their share needs no factor
     return 8000 + serve(leg, v_st(leg), s_st) - 8000 * s_b // s_st + leg.line[11]
 
 

@@ -184,7 +184,7 @@ def oncoming_single():
 
 def large():
     """Many lanes, many vehicles, everything at its most."""
-    slow_eb = approach((0, 9999), (1, 108), (0, 9999), shared=1, peds=2000, ideal=1000, lost=20000)
+    slow_eb = approach((0, 9999), (1, 36), (0, 9999), shared=1, peds=2000, ideal=1000, lost=20000)
     slow_wb = approach((0, 1), (1, 9999), (0, 9999), shared=1, ideal=1000)
     full = approach((0, 9999), (1, 9999), (0, 9999), shared=1, peds=2000, button=0,
                     ideal=1000, lost=20000, minimum=60000, ped_time=60000)
@@ -287,6 +287,52 @@ def letters():
     ]
 
 
+# ---------------------------------------------------------------- bus gates
+
+def gate(left=(0, 0), through=(0, 0), right=(0, 0), ideal=1000, **rest):
+    """An approach through a gate: so slow an ideal flow that a whole vehicle is a large part of it."""
+    return approach(left, through, right, ideal=ideal, **rest)
+
+
+def street_gate():
+    """The gate of the engineers' page: K1's street, and across it one shared lane each way for buses."""
+    buses = gate((0, 90), (1, 140), (0, 30), shared=1)
+    return [("bus gate: across K1's street", junction(PLAIN, PLAIN, buses, buses))]
+
+
+def narrow_gates():
+    """Gates of one lane, or of a lane for each movement: lines 5, 6, 9 and 22 and L's own sA have a tenth."""
+    one_eb, one_wb = gate((0, 17), (1, 110), (0, 23), shared=1), gate((0, 31), (1, 140), (0, 12), shared=1)
+    left = gate((1, 59), (1, 85), ideal=(1003, 1000, 1000))
+    lefts = gate((0, 59), (1, 0), shared=1)
+    return [
+        ("bus gate: one shared lane each way", junction(one_eb, one_wb, PLAIN, PLAIN)),
+        ("bus gate: one shared lane on each approach, people cross", everywhere(
+            approach((0, 21), (1, 150), (0, 34), shared=1, peds=30, ideal=1007), cycle=90)),
+        ("bus gate: 59 lefts in a lane of their own", junction(
+            gate((1, 59), (1, 85)), gate((1, 44), (1, 121)), left, gate((1, 59), (1, 130)))),
+        ("bus gate: 59 lefts and nobody else, longest cycle", junction(
+            lefts, gate(through=(1, 200)), gate((1, 59)), gate(through=(1, 200)), cycle=240)),
+        ("bus gate: lefts in a lane of their own against a single lane", junction(
+            gate((1, 150), (1, 90), ideal=(1003, 1001, 1000)), gate((0, 90), (1, 60), (0, 10), shared=1), PLAIN, PLAIN, cycle=60)),
+        ("bus gate: lefts of a shared lane at 1,001, little oncoming traffic", junction(
+            gate((0, 300), (1, 20), shared=1, ideal=(1001, 1000, 1000)), gate(through=(1, 110)), PLAIN, PLAIN)),
+    ]
+
+
+def wide_gates():
+    """Gates of several lanes: lines 5 to 8 and sB have a tenth, and option B goes by it."""
+    two_eb, two_wb = gate((0, 90), (2, 650), (0, 70), shared=1), gate((0, 4), (2, 101), (0, 19), shared=1)
+    three_nb, three_sb = gate((0, 70), (3, 800), (0, 33), shared=1), gate((0, 5), (3, 117), (0, 3), shared=1)
+    most = gate((3, 480), (3, 700), (2, 900), ideal=(1003, 1003, 1000))
+    return [
+        ("bus gate: two shared lanes against a quiet approach", junction(two_eb, two_wb, PLAIN, PLAIN)),
+        ("bus gate: three shared lanes against a quiet approach", junction(PLAIN, PLAIN, three_nb, three_sb, cycle=100)),
+        ("bus gate: two and three lanes for each movement", junction(
+            most, gate((2, 310), (2, 500), (3, 700)), PLAIN, gate((2, 220), (3, 400), (1, 300), ideal=(1000, 1007, 1001)))),
+    ]
+
+
 # ---------------------------------------------------------------- refused
 
 def refused():
@@ -309,7 +355,7 @@ def refused():
 def all_junctions():
     """All (name, entries), in the order they are run."""
     parts = (k_junctions, book_examples, odd_legs, closed_legs, shared_lanes, oncoming_single, large,
-             cycles_and_flows, pedestrians, right_turns, picks, letters, refused)
+             cycles_and_flows, pedestrians, right_turns, picks, letters, refused, narrow_gates, wide_gates, street_gate)
     return [named for part in parts for named in part()]
 
 

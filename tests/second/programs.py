@@ -266,7 +266,7 @@ def usage(b):
 
 
 def samples(b):
-    """The twelve junctions: texts to a study and back, their sheets, and a change of each."""
+    """The thirteen junctions: texts to a study and back, their sheets, and a change of each."""
     texts = [os.path.join(SAMPLES, name + ".txt") for name in NAMES]
     for folder in (SAMPLES, b.folder):
         table.main(b.folder)

@@ -55,6 +55,7 @@ def lines(sheet, a, *which):
 def check_k1_k2():
     sheet = sheet_of("K1")
     for a in range(4):
+        check("K1 flows", lines(sheet, a, 5, 6), [18050, 19000])
         check("K1 left and through", lines(sheet, a, 13, 16, 14, 17), [6649, 10649, 25264, 29264])
     check("K1 pairs", (sheet[193], sheet[197]), (39913, 39913))
     check("K1 required, ICU, letter", sheet[206:], [79826, 666, 2])
@@ -62,10 +63,10 @@ def check_k1_k2():
     sheet = sheet_of("K2")
     for a in range(4):
         check("K2 lines", lines(sheet, a, 4, 6, 20, 21, 22, 23),
-              [9603, 1824, 2000, 29455, 1312, 45732])
+              [9603, 18245, 2000, 29455, 13132, 45690])
     for at in (193, 197):
-        check("K2 pair", sheet[at:at + 4], [BLANK, 49732, 73790, 1])
-    check("K2 ICU, letter", sheet[207:], [829, 4])
+        check("K2 pair", sheet[at:at + 4], [BLANK, 49690, 73772, 1])
+    check("K2 combined, required, ICU, letter", sheet[205:], [99380, 99380, 829, 4])
 
 
 def check_k3_to_k10():
@@ -78,12 +79,12 @@ def check_k3_to_k10():
     check("K6 letter", letter(551), 1)
     check("K7 line 24", lines(sheet_of("K7"), EB, 24), [25264])
     check("K8 line 24", lines(sheet_of("K8"), EB, 24), [BLANK])
-    check("K9 line 23", lines(sheet_of("K9"), EB, 23), [118000])
+    check("K9 lines 5, 23", lines(sheet_of("K9"), EB, 5, 23), [18050, 117804])
     check("K10 line 23", lines(sheet_of("K10"), EB, 23), [BLANK])
     leg = icu2003.worked_legs(NAMED["K9"])[EB]
     check("K9 E", icu2003.equivalents(leg, 10000), 300000)
-    check("K9 sA", icu2003.left_lane_flow(leg.line[5], 1, 10000, 300000), 60)
-    check("K9 beside EB", beside(NAMED["K9"])[:5], [59, 300000, 60, 0, 0])
+    check("K9 sA", icu2003.left_lane_flow(leg.line[5], 1, 10000, 300000), 601)
+    check("K9 beside EB", beside(NAMED["K9"])[:5], [59, 300000, 601, 0, 0])
     check("K2 beside", beside(NAMED["K2"]), [0] * 20)
 
 
@@ -118,10 +119,10 @@ def check_layout():
 
 def check_book_examples():
     sheet = sheet_of("book example 1")
-    check("example 1", sheet[201:], [66553, 68215, 0, 0, 98679, 98679, 823, 4])
-    check("example 1 permitted", lines(sheet, NB, 26) + lines(sheet, SB, 26), [46135, 44473])
+    check("example 1", sheet[201:], [66525, 68180, 0, 0, 98644, 98644, 823, 4])
+    check("example 1 permitted", lines(sheet, NB, 26) + lines(sheet, SB, 26), [46100, 44445])
     sheet = sheet_of("book example 2")
-    check("example 2", sheet[201:], [73946, 0, 0, 0, 95161, 95161, 794, 3])
+    check("example 2", sheet[201:], [73946, 0, 0, 0, 95146, 95146, 793, 3])
 
 
 def check_named():
@@ -142,13 +143,57 @@ def check_named():
     check("last two tie", (tie[193], tie[194] == tie[195]), (BLANK, True))
     right = sheet_of("a right total decides")
     check("right decides", (right[201] == right[206], right[205] < right[206]), (True, True))
-    check("longest line 23", lines(sheet_of("longest option A"), EB, 23), [185603164])
+    check("longest line 23", lines(sheet_of("longest option A"), EB, 23), [179418306])
     full = sheet_of("largest volumes in single lanes, slowest flow")
-    check("largest split", full[195], 15468508)
+    check("largest split", full[195], 15466858)
     check("E under 10,000", lines(sheet_of(
         "all lefts, both single: a left worth less than a through"), EB, 21)[0] < 10000, True)
     check("G without right volume", [x > 0 for x in lines(sheet_of(
         "right lanes without right volume, pedestrians"), EB, 10, 15)], [True, False])
+
+
+def check_bus_gates():
+    """Flows with a tenth, the times that go by it, and the page that shows it."""
+    for name, a, which, wanted in (
+            ("one shared lane each way", EB, (4, 6, 8, 9, 14, 22, 23), [9714, 9714, 9740, 9500, 18530, 7827, 22998]),
+            ("59 lefts in a lane of their own", EB, (5, 6, 13, 14, 23), [9500, 10000, 7453, 10200, 224051]),
+            ("59 lefts in a lane of their own", NB, (5, 13, 23), [9528, 7431, 223344]),
+            ("59 lefts and nobody else, longest cycle", EB, (6, 21, 22, 23), [9500, 600000, 157, 901911]),
+            ("lefts in a lane of their own against a single lane", EB, (5, 6, 13, 14, 23, 24), [9528, 10010, 9446, 5395, 15016, 17446]),
+            ("lefts of a shared lane at 1,001, little oncoming traffic", EB, (9, 23, 24, 27), [9509, BLANK, 45859, 40290]),
+            ("two shared lanes against a quiet approach", EB, (6, 8, 23, 24, 26, 28), [18687, 18762, BLANK, 50068, 54068, 56015]),
+            ("three shared lanes against a quiet approach", NB, (6, 8, 24, 26, 28), [26983, 27076, 33452, 37452, 37466]),
+            ("two and three lanes for each movement", EB, (5, 6, 7, 15), [27756, 27321, 15045, 71785]),
+            ("two and three lanes for each movement", WB, (5, 7, 15), [18449, 22567, 37223])):
+        check("bus gate: " + name, lines(sheet_of("bus gate: " + name), a, *which), wanted)
+    # the gate of the engineers' page, as it is worked there by hand
+    gate = sheet_of("bus gate: across K1's street")
+    check("the engineers' gate", lines(gate, NB, 2, 4, 6, 8, 9, 14, 17, 19, 20, 21, 22, 23, 26, 28),
+          [260, 9656, 9656, 9735, 9500, 32312, 36312, 260, 3462, 20107, 7152, 43625, 47625, 36312])
+    check("the engineers' gate, totals", gate[193:], [39913, BLANK, 58528, 0, BLANK, 47625, 72624, 1, 0, 0, 0, 0, 87538, 87538, 730, 2])
+    for name, a, own in (("59 lefts in a lane of their own", EB, [59, 300000, 316]), ("59 lefts in a lane of their own", NB, [59, 300000, 317]),
+                         ("lefts in a lane of their own against a single lane", EB, [150, 15895, 5994])):
+        check("own sA: " + name, beside(NAMED["bus gate: " + name])[5 * a:5 * a + 3], own)
+    digits = {which for name, entries in NAMED.items() if name.startswith("bus gate") for which in with_a_tenth(entries)}
+    check("every flow has a tenth at some gate", digits, {5, 6, 7, 8, 9, 22, "own sA", "sB"})
+    page = table.sheet_text(sheet_of("K9"))
+    for row in ("5  flow, left                  17 V     1805.0     1805.0     1805.0     1805.0\n",
+                "6  flow, through               17 V     1900.0     1900.0     1900.0     1900.0\n",
+                "L  ideal flow                   9 v       1900       1900       1900       1900\n",
+                "19 volume of left lane         25 v        400        400        400        400\n",
+                "23 own saturation A            29 V       60.1       60.1       60.1       60.1\n"):
+        check("row of the page: " + row.strip(), row in page, True)
+
+
+def with_a_tenth(entries):
+    """Which flows of a junction are no whole vehicles; sB where it is cut."""
+    sheet, found = fill(entries), set()
+    for a in range(4):
+        found |= {k for k in (5, 6, 7, 8, 9, 22) if lines(sheet, a, k)[0] % 10 > 0}
+        n, s = entries[15 * a + 5], lines(sheet, a, 6)[0]
+        found |= {"sB"} if entries[60 + 5 * a] and s * (n - 1) % n > 0 and s * (n - 1) // n % 10 > 0 else set()
+        found |= {"own sA"} if beside(entries)[5 * a + 2] % 10 > 0 else set()
+    return found
 
 
 def check_closed_legs():
@@ -240,10 +285,11 @@ def random_entries(rng):
 
 # ---------------------------------------------------------------- the lines spelled again
 #
-# The same sheet from the book's shapes of the formulas: fractions, seconds and shares,
-# rounded where the rules round. None stands for BLANK. Nothing is taken from icu2003.
+# The same sheet from the book's shapes of the formulas: fractions, seconds, vehicles per hour
+# and shares, rounded where the rules round. None stands for BLANK. Nothing is taken from icu2003.
 
 MS, SHARE, BILLIONTH = Fraction(1, 1000), Fraction(1, 10000), Fraction(1, 10**9)
+TENTH = Fraction(1, 10)  # flows are cut to tenths of a vehicle per hour
 
 
 def down_to(x, unit):
@@ -292,10 +338,10 @@ def again_flows(x):
     x["fT"] = down_to(rights(x["vCT"]) * lefts(x["vCT"]), SHARE)
     factors = {"L": Fraction(95, 100), "T": x["fT"], "R": Fraction(85, 100)}
     for g, f in factors.items():
-        x["s" + g] = down_to(x["i" + g] * x["n" + g] * f_lu[g][x["n" + g]] * f, 1)
+        x["s" + g] = down_to(x["i" + g] * x["n" + g] * f_lu[g][x["n" + g]] * f, TENTH)
     alone = down_to(rights(x["vST"]), SHARE)
-    x["sST"] = down_to(x["iT"] * x["nT"] * f_lu["T"][x["nT"]] * alone, 1)
-    x["sSL"] = down_to(x["iL"] * (x["nL"] + 1) * Fraction(95, 100), 1) if x["shared"] else x["sL"]
+    x["sST"] = down_to(x["iT"] * x["nT"] * f_lu["T"][x["nT"]] * alone, TENTH)
+    x["sSL"] = down_to(x["iL"] * (x["nL"] + 1) * Fraction(95, 100), TENTH) if x["shared"] else x["sL"]
     ped, cl = x["ped"], x["CL"]
     blocked = 24 - down_to(8 * again_decay(ped * (cl - 8)) + 16 * again_decay(ped * 4), MS)
     x["intfR"] = blocked if x["nR"] else Fraction(0)
@@ -347,7 +393,7 @@ def again_left_lane(x, o, g, p_l):
     facing = down_to(Fraction(o["vL"], o["vCT"]), SHARE) if again_single(o) else 0
     top = Fraction(5, 10) + Fraction(8, 10) * p_ll - Fraction(3, 10) * p_ll**2
     e_l = up_to(top / (2 * (1 + p_ll) / cl + facing), SHARE)
-    s_a = down_to(s * down_to(1 / (1 + p_ll * (e_l - 1)), SHARE) / n, 1)
+    s_a = down_to(s * down_to(1 / (1 + p_ll * (e_l - 1)), SHARE) / n, TENTH)
     interference = x["intfT"] if g == "T" else 0
     a = max(up_to(v_ll * cl / s_a, MS) + interference, up_to(Fraction(v * cl, s), MS))
     return [v_ll, p_ll, e_l, s_a, a]
@@ -358,7 +404,7 @@ def again_option_b(x):
     halves = [Fraction(0)]
     if x["vCT"]:
         n, s = x["nT"], x["sST"]
-        s_b = down_to(x["sT"] * Fraction(n - x["shared"], n), 1)
+        s_b = down_to(x["sT"] * Fraction(n - x["shared"], n), TENTH)
         halves.append(8 + up_to(Fraction(x["vST"] * x["CL"]) / s, MS)
                       - down_to(8 * s_b / s, MS) + x["intfT"])
     if x["vL"]:
@@ -371,7 +417,7 @@ def again_permitted_split(x, o):
     p_l = Fraction(x["vL"] - x["vCL"], x["vCT"]) if x["vCT"] else 0
     x["vLL"], x["pLL"], x["EL"], x["sA"], a_t = again_left_lane(x, o, "T", p_l)
     own = again_left_lane(x, o, "L", 1)
-    a_l, x["own"] = own[4], [own[0], own[2] * 10000, own[3]]
+    a_l, x["own"] = own[4], [own[0], own[2] * 10000, own[3] / TENTH]
     if not x["vCL"] and not x["vCT"]:
         x["A"] = x["B"] = x["perm"] = x["split"] = Fraction(0)
         x["adjPerm"] = x["adjSplit"] = again_stretch(x, 0) if again_walked(x) else Fraction(0)
@@ -419,10 +465,10 @@ def again_right(compass, picked, name):
 def again_cells(x):
     """The 28 lines of an approach as whole numbers."""
     blank = lambda t: BLANK if t is None else t * 1000
-    return ([x["vCL"], x["vCT"], x["vCR"], x["fT"] * 10000, x["sL"], x["sT"], x["sR"], x["sST"],
-             x["sSL"], x["intfR"] * 1000, x["intfT"] * 1000, x["freq"] * 10000]
+    return ([x["vCL"], x["vCT"], x["vCR"], x["fT"] * 10000] + [x[k] / TENTH for k in ("sL", "sT", "sR", "sST", "sSL")]
+            + [x["intfR"] * 1000, x["intfT"] * 1000, x["freq"] * 10000]
             + [x[k] * 1000 for k in ("refL", "refT", "refR", "adjL", "adjT", "adjR")]
-            + [x["vLL"], x["pLL"] * 10000, x["EL"] * 10000, x["sA"]]
+            + [x["vLL"], x["pLL"] * 10000, x["EL"] * 10000, x["sA"] / TENTH]
             + [blank(x[k]) for k in ("A", "B", "perm", "adjPerm", "split", "adjSplit")])
 
 
@@ -711,10 +757,10 @@ def again_judge_diamond(record):
 def check_example_3():
     record = DIAMONDS["book example 3"]
     cells = icu2003.diamond(record)
-    check("example 3, west", cells[:7], [27052, 0, 13759, 38664, 20265, 39895, 0])
-    check("example 3, east", cells[7:14], [22908, 0, 16632, 29211, 30024, 0, 11059])
-    check("example 3, isolated and overlaps", cells[14:22], [80706, 69564, 78559, 59235, 80706, 69564, 7100, 7100])
-    check("example 3, plans", cells[22:], [105679, BLANK, BLANK, 0, 105679, 881, 4])
+    check("example 3, west", cells[:7], [27048, 0, 13757, 38664, 20262, 39878, 0])
+    check("example 3, east", cells[7:14], [22908, 0, 16632, 29211, 30018, 0, 11059])
+    check("example 3, isolated and overlaps", cells[14:22], [80683, 69558, 78542, 59229, 80683, 69558, 7100, 7100])
+    check("example 3, plans", cells[22:], [105652, BLANK, BLANK, 0, 105652, 881, 4])
     check("example 3, storages", icu2003.storage_fits(record), [True, True, True, False])
     printed = [27.0, 0, 13.8, 38.7, 20.3, 39.9, 0, 22.9, 0, 16.6, 29.2, 30.0, 0, 11.1, 80.7, 69.6, 78.5, 59.2, 80.7, 69.6, 7.1, 7.1, 105.6]
     check("example 3, the book's figures", [abs(x / 1000 - y) < 0.08 for x, y in zip(cells, printed)], [True] * 23)
@@ -735,8 +781,8 @@ def check_named_diamonds():
             ("travel 60 s", [240000, 57423, 57423, 1, 57423, 479, 0]),
             ("storages of 1", [80846, BLANK, BLANK, 0, 80846, 674, 2]),
             ("storages of 999", [80846, 57423, 57423, 1, 57423, 479, 0]),
-            ("a ratio of 1 exactly", [1293844, BLANK, BLANK, 0, 1293844, 5392, 7]),
-            ("one vehicle more of room", [1293844, 1267844, 1267844, 1, 1267844, 5283, 7])):
+            ("a ratio of 1 exactly", [1293580, BLANK, BLANK, 0, 1293580, 5390, 7]),
+            ("one vehicle more of room", [1293580, 1267580, 1267580, 1, 1267580, 5282, 7])):
         check(name, icu2003.diamond(DIAMONDS[name])[22:], wanted)
     every = icu2003.diamond(DIAMONDS["every time its own"])
     check("every time its own", every[:14], [9000, 8000, 3000, 7000, 6000, 5000, 4000, 9500, 100, 2000, 6000, 5500, 6500, 7500])
@@ -1166,7 +1212,7 @@ def check_values(rounds):
 
 def main(rounds):
     for part in (check_k1_k2, check_k3_to_k10, check_listing, check_letters, check_layout,
-                 check_book_examples, check_named, check_closed_legs, check_refusals, check_decay,
+                 check_book_examples, check_named, check_bus_gates, check_closed_legs, check_refusals, check_decay,
                  check_amend_answers, check_study_places, check_study_write, check_example_3, check_named_diamonds,
                  check_diamond_refusals, check_pages, check_open_adds, check_open_amendments, check_open_reads, check_open_files,
                  check_sample_offices, check_office_words):

@@ -251,7 +251,7 @@ def change_of(words):
 
 # ---------------------------------------------------------------- the worksheet
 
-# (number, name, line of the book, unit), section by section
+# (number, name, line of the book, unit), section by section; v is whole vehicles per hour, V those kept in tenths
 ENTRY_ROWS = [(g, name, book, unit) for g in "LTR" for name, book, unit in (
     ("lanes", "2", "n"), ("volume", "4", "v"), ("ideal flow", "9", "v"), ("lost time", "10", "s"), ("minimum green", "11", "s"))]
 APPROACH_ROWS = [("A", name, book, unit) for name, book, unit in (
@@ -259,20 +259,20 @@ APPROACH_ROWS = [("A", name, book, unit) for name, book, unit in (
     ("free right", "8", "n"))]
 LINE_ROWS = [(str(k), name, book, unit) for k, (name, book, unit) in enumerate((
     ("volume, left", "13", "v"), ("volume, through", "13", "v"), ("volume, right", "13", "v"), ("turning factor", "16", "f"),
-    ("flow, left", "17", "v"), ("flow, through", "17", "v"), ("flow, right", "17", "v"),
-    ("flow, separate through", "18", "v"), ("flow, separate left", "18", "v"),
+    ("flow, left", "17", "V"), ("flow, through", "17", "V"), ("flow, right", "17", "V"),
+    ("flow, separate through", "18", "V"), ("flow, separate left", "18", "V"),
     ("interference, right", "19", "s"), ("interference, through", "19", "s"), ("pedestrian frequency", "20", "f"),
     ("reference, left", "22", "s"), ("reference, through", "22", "s"), ("reference, right", "22", "s"),
     ("adjusted, left", "23", "s"), ("adjusted, through", "23", "s"), ("adjusted, right", "23", "s"),
     ("volume of left lane", "25", "v"), ("lefts in left lane", "26", "f"), ("left equivalents", "27", "f"),
-    ("saturation A", "29", "v"), ("permitted option A", "30", "s"), ("permitted option B", "32-33", "s"),
+    ("saturation A", "29", "V"), ("permitted option A", "30", "s"), ("permitted option B", "32-33", "s"),
     ("permitted reference", "34", "s"), ("permitted adjusted", "35", "s"), ("split reference", "36-38", "s"),
     ("split adjusted", "39", "s")), 1)]
 PAIR_ROWS = [("P", "protected", "40", "s"), ("P", "permitted", "41", "s"), ("P", "split", "42", "s"), ("P", "picked", "43", "*")]
 LAST_ROWS = [("J", "combined", "44", "s"), ("J", "required", "51", "s"), ("J", "ICU", "51", "%"), ("J", "level of service", "52", "A")]
 
 
-BESIDE_ROWS = [("23", "own volume of left lane", "25", "v"), ("23", "own left equivalents", "27", "f"), ("23", "own saturation A", "29", "v"),
+BESIDE_ROWS = [("23", "own volume of left lane", "25", "v"), ("23", "own left equivalents", "27", "f"), ("23", "own saturation A", "29", "V"),
                ("R", "cross through", "47", "s"), ("R", "oncoming left", "49", "s")]
 
 
@@ -290,7 +290,7 @@ def shown(unit, value):
         return "NA" if value == icu2003.BLANK else decimal(value, 3)
     if unit == "f":
         return decimal(value, 4)
-    if unit == "%":
+    if unit in ("%", "V"):
         return decimal(value, 1)
     if unit == "A":
         return "ABCDEFGH"[value]
@@ -408,6 +408,7 @@ AMENDMENTS = {
     "book2": "EB free-right 1",
     "closed": "SB push-button 1",
     "button": "SB pedestrians 0",
+    "gate": "NBL volume 91",
 }
 
 TITLES = {
@@ -423,12 +424,13 @@ TITLES = {
     "book2": "The book's second example",
     "closed": "A T junction: people cross at the closed leg, no button",
     "button": "A T junction: people cross at the closed leg, a button",
+    "gate": "A bus gate of 1,000 an hour across the street of K1",
 }
 
 
 def samples():
-    """(name, entries) of the twelve junctions."""
-    named = junctions.k_junctions() + junctions.book_examples() + junctions.closed_legs()
+    """(name, entries) of the thirteen junctions."""
+    named = junctions.k_junctions() + junctions.book_examples() + junctions.closed_legs() + junctions.street_gate()
     return list(zip(TITLES, (entries for _, entries in named)))
 
 

@@ -90,7 +90,7 @@ sideRows =
     "   minimum green               12 s mmmmmmm" from greenNo ∷
     "1  volume combined             16 v ggggggg" from 1 ∷
     "4  turning factor              18 f l  l l " from 4 ∷
-    "5  flow                        19 v ggggggg" from 5 ∷
+    "5  flow                        19 V ggggggg" from 5 ∷
     "10 interference, right         20 s  l    l" from 10 ∷
     "11 interference, through       20 s l  l l " from 11 ∷
     "12 pedestrian frequency        21 f l  l l " from 12 ∷

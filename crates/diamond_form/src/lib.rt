@@ -61,7 +61,7 @@ const FORM: [u8; FORM_WIDTH * FORM_ROWS] = *b"\x20  lanes                       
     \x20  minimum green               12 s mmmmmmm\
     1  volume combined             16 v ggggggg\
     4  turning factor              18 f l  l l \
-    5  flow                        19 v ggggggg\
+    5  flow                        19 V ggggggg\
     10 interference, right         20 s  l    l\
     11 interference, through       20 s l  l l \
     12 pedestrian frequency        21 f l  l l \

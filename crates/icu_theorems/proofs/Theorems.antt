@@ -8,8 +8,11 @@ use mathlib.Core.Logic.{_≢_}
 use mathlib.Core.Bool.{true, false, cond}
 use mathlib.Core.List.{List, [], _∷_, map, replicate}
 use mathlib.Core.List.{length as size}
-use Prim.Native.Nat.{ℕ, _<_, _≤_, _*_}
+use Prim.Native.Nat.{ℕ, _<_, _≤_, _*_, _/_}
+use lib.Dec.{eqb}
 use lib.ListN.{length, getD, set, take}
+use Rattle.units.specs.Rounding.{up}
+use Rattle.units.specs.Unit.{flowUnit}
 use Rattle.answers.specs.Answers.{_then_, left-by, refusalNumber}
 use Rattle.answers.specs.declared.Refusal.{Refusal}
 use Rattle.answers.specs.declared.Refusal.the-variants.{Owner, Full}
@@ -17,11 +20,15 @@ use Rattle.answers.specs.declared.Answer.the-variants.{Accepted, Refused}
 use Rattle.layout.specs.Entries.{approachCount, entryCount}
 use Rattle.layout.specs.Sheet.{BLANK, sheetCount}
 use Rattle.entries.specs.Judging.{judged}
+use Rattle.kinds.specs.declared.Group.{Group}
+use Rattle.line_factors.specs.Factors.{laneFactor}
 use Rattle.procedure.specs.declared.Approach.{Approach}
+use Rattle.procedure.specs.Lines.{flowOf, flowA, time}
 use Rattle.procedure.specs.Ranges.{Fair, FairCycle}
 use Rattle.procedure.specs.Sheet.{sheet}
 use Rattle.procedure.specs.Junctions.{workedOut, given}
 use Rattle.procedure.proofs.Compared.{compared}
+use Rattle.procedure.proofs.Finer as finer
 use Rattle.line_bounds.proofs.Permitted.{Refused as BlankMeans, lines-refused}
 use Rattle.line_bounds.proofs.Crossing as crossing
 use Rattle.sheet_cells.specs.Cells.{sheetAnswer}
@@ -165,9 +172,22 @@ accepted-fill = outcomes.accepted-fill
 pub acceptable-only : {one : IcuAnswer} {left : List ℕ} (e d : List ℕ) → fillAllows e d one left → Yes one → (judged e ≡ Accepted) × (length d ≡ sheetCount)
 acceptable-only = outcomes.acceptable-only
 
--- .. and an accepted fill leaves the procedure, line by line: the 209 cells of `sheet e`.
+-- .. and an accepted fill leaves the procedure, line by line: the 209 cells of `sheet e`. Its volumes are vehicles per hour; its flows,
+-- lines 5–9 and 22, tenths of one (`flowUnit`), rounded down; its times milliseconds, rounded up.
 pub filled-sheet : {one : IcuAnswer} {left : List ℕ} (e d : List ℕ) → fillAllows e d one left → Yes one → left ≡ sheet e
 filled-sheet = outcomes.filled-sheet
+
+-- The smaller unit of flows, beside the rules that counted them in whole vehicles: a flow of lines 5–9 is the one of then, cut finer ..
+pub in-whole-vehicles : (g : Group) (i n f : ℕ) → flowOf g i n f / flowUnit ≡ cond (eqb n 0) 0 (i * n * laneFactor g n * f / 10_000_000)
+in-whole-vehicles = finer.whole-vehicles
+
+-- .. line 22, and L's own, made of it is no smaller ..
+pub no-smaller-than-before : (flow q E n : ℕ) → flowUnit * flowA (flow / flowUnit) q E n ≤ flowA flow q E n
+no-smaller-than-before = finer.line-22-no-smaller
+
+-- .. and a time by a flow that is no smaller is no longer than 1000·v·CL over the one of then.
+pub no-longer-than-before : (v CL flow before : ℕ) → 0 < before → flowUnit * before ≤ flow → time v CL flow ≤ up (1000 * v * CL) before
+no-longer-than-before = finer.no-longer
 
 -- Where nobody drives people still have time to cross: a T group without volume has reference time 0, and so have lines 25 and 27
 -- of an approach without L and T; lines 17, 26 and 28 are then the weighted formula's, of a reference time of 0, where there are

@@ -29,14 +29,14 @@ leastFactor = 885
 abbrev pub mostFactor : ℕ
 mostFactor = 1_000
 
--- lines 5–9: what one lane carries at least, and six at most (714 and 14,400)
+-- lines 5–9: what one lane carries at least, and six at most (7,146 and 144,000 tenths)
 abbrev pub leastLaneFlow : ℕ
 leastLaneFlow = limitsOf IdealFlow .least * leastFactor * leastTurning / (10_000_000 / flowUnit)
 
 abbrev pub mostFlow : ℕ
 mostFlow = mostOf IdealFlow * mostOf Lanes * flowUnit
 
--- how many times the flow that serves it a volume can be (43)
+-- how many times the flow that serves it a volume can be (42)
 abbrev pub mostServed : ℕ
 mostServed = mostVolume * flowUnit / leastLaneFlow + 1
 
@@ -51,11 +51,11 @@ pub record Passes (v CL flow : ℕ) : Type 0 where
 abbrev pub mostHeld : ℕ
 mostHeld = 24_000
 
--- "1000·v·CL/flow", of a volume of k times the flow, in the longest cycle
+-- "1000·v·CL/flow", of a volume of k times the flow, both in one unit, in the longest cycle
 abbrev pub mostTime : ℕ → ℕ
 mostTime k = 1000 * mostOf Cycle * k
 
--- 13–15 and 27 (10,344,000)
+-- 13–15 and 27 (10,104,000)
 abbrev pub mostReference : ℕ
 mostReference = mostTime mostServed + mostHeld
 
@@ -63,7 +63,7 @@ mostReference = mostTime mostServed + mostHeld
 abbrev pub mostAdded : ℕ
 mostAdded = mostOf LostTime + max (mostOf MinimumGreen) (mostOf PedestrianTime)
 
--- 16–18 and 28 (10,424,000)
+-- 16–18 and 28 (10,184,000)
 abbrev pub mostAdjusted : ℕ
 mostAdjusted = mostReference + mostAdded
 
@@ -81,18 +81,18 @@ leastParts = 1_000_000_000_000 / (100_000_000 + whole * mostEquivalent)
 abbrev pub mostParts : ℕ
 mostParts = 1_000_000_000_000 / whole
 
--- and what the lane carries (4 and 144,000,000)
+-- and what the lane carries (45 and 1,440,000,000 tenths)
 abbrev pub leastMixed : ℕ
 leastMixed = leastLaneFlow * leastParts / whole
 
 abbrev pub mostMixed : ℕ
 mostMixed = mostFlow * mostParts / whole
 
--- how many times that flow a volume can be (7,500)
+-- how many times that flow a volume can be (6,667)
 abbrev pub mostMixedServed : ℕ
 mostMixedServed = mostVolume * flowUnit / leastMixed + 1
 
--- 23–25, where they are times (1,800,024,000), and 26
+-- 23–25, where they are times (1,600,104,000), and 26
 abbrev pub mostOption : ℕ
 mostOption = mostTime mostMixedServed + mostHeld
 

@@ -14,20 +14,20 @@ use units::Flow;
 use units::Ms;
 use units::Vph;
 
-// Milliseconds of a second, in the flows' unit.
-const THOUSAND: u64 = 1000 * units::FLOW_UNIT;
+// Milliseconds of a second, times the parts of a flow that make a vehicle per hour.
+const TIME_SCALE: u64 = 1000 * units::FLOW_UNIT;
 
 // A whole, in products of 64 bits.
 const WHOLE: u64 = units::WHOLE as u64;
 
-// 1000·v·CL/flow, up, of a flow that carries at least a small part of the volume.
+// 10,000·v·CL over a flow in tenths, up; the flow carries at least a small part of the volume.
 pub fn time_for(volume: Vph, cycle: Cycle, flow: Flow) -> Ms
     requires { ⌜ (volume .0 ≤ mostVolume) × (cycle .0 ≤ mostOf CycleKind) × (flowUnit * volume .0 ≤ mostMixedServed * flow .0) × (flow .0 ≤ mostMixed) ⌝ }
     ensures { λ r. ⌜ r .0 ≡ time (volume .0) (cycle .0) (flow .0) ⌝ }
 {
     Ms(
         units::divide_up(
-            THOUSAND * (volume.0 as u64) * (cycle.0 as u64),
+            TIME_SCALE * (volume.0 as u64) * (cycle.0 as u64),
             flow.0 as u64,
         ) as u32,
     )

@@ -5,6 +5,7 @@ use mathlib.Core.List.{List, [], _∷_}
 use lib.ListN.{getD}
 use lib.Dec.{eqb, ltb}
 use Rattle.text.specs.Text.{digit, digitMost, joined}
+use Rattle.units.specs.Unit.{flowDecimals}
 use Rattle.layout.specs.Entries.{approachCount}
 use Rattle.layout.specs.Sheet.{BLANK, pairCount, pickNo}
 
@@ -40,12 +41,16 @@ numberByte number decimals p =
     cond (eqb decimals 0 || ltb p decimals) (digitByte number decimals p)
     (cond (eqb p decimals) point (digitByte number decimals (p - 1)))
 
--- the bytes of the units that are not whole numbers: s, f, %, *, A and : (a heading)
+-- the bytes of the units that are not whole numbers: s, f, V, %, *, A and : (a heading). What is counted, and the ideal flow, which is
+-- an entry, are whole vehicles per hour, v; what lanes carry has decimals, V.
 abbrev pub seconds : ℕ
 seconds = 115
 
 abbrev pub factor : ℕ
 factor = 102
+
+abbrev pub carried : ℕ
+carried = 86
 
 abbrev pub percent : ℕ
 percent = 37
@@ -59,9 +64,10 @@ letter = 65
 abbrev pub heading : ℕ
 heading = 58
 
--- times are ms and shown in seconds, factors and shares ten-thousandths, the ICU tenths of a percent
+-- times are ms and shown in seconds, factors and shares ten-thousandths, flows parts of a vehicle per hour, the ICU tenths of a percent
 abbrev pub decimalsOf : ℕ → ℕ
-decimalsOf unit = cond (eqb unit seconds) 3 (cond (eqb unit factor) 4 (cond (eqb unit percent) 1 0))
+decimalsOf unit =
+    cond (eqb unit seconds) 3 (cond (eqb unit factor) 4 (cond (eqb unit carried) flowDecimals (cond (eqb unit percent) 1 0)))
 
 -- texts --------------------------------------------------------------------------------------------------------------
 

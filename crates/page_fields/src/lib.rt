@@ -76,13 +76,14 @@ fn number_byte(number: u32, decimals: usize, p: usize) -> u8
     digit_byte(number, decimals, p - 1)
 }
 
-// Times are ms and shown in seconds, factors and shares ten-thousandths, the ICU tenths of a percent.
+// Times are ms and shown in seconds, factors and shares ten-thousandths, flows parts of a vehicle per hour, the ICU tenths of a percent.
 fn decimals_of(unit: u8) -> usize
     ensures { λ r. ⌜ r ≡ decimalsOf unit ⌝ }
 {
     match unit {
         b's' => 3,
         b'f' => 4,
+        b'V' => units::FLOW_DECIMALS,
         b'%' => 1,
         _ => 0,
     }

@@ -42,11 +42,11 @@ const TITLES: [u8; TITLE_BYTES] = *b"no entry                     book :\
     2  volume, through             13 v\
     3  volume, right               13 v\
     4  turning factor              16 f\
-    5  flow, left                  17 v\
-    6  flow, through               17 v\
-    7  flow, right                 17 v\
-    8  flow, separate through      18 v\
-    9  flow, separate left         18 v\
+    5  flow, left                  17 V\
+    6  flow, through               17 V\
+    7  flow, right                 17 V\
+    8  flow, separate through      18 V\
+    9  flow, separate left         18 V\
     10 interference, right         19 s\
     11 interference, through       19 s\
     12 pedestrian frequency        20 f\
@@ -59,7 +59,7 @@ const TITLES: [u8; TITLE_BYTES] = *b"no entry                     book :\
     19 volume of left lane         25 v\
     20 lefts in left lane          26 f\
     21 left equivalents            27 f\
-    22 saturation A                29 v\
+    22 saturation A                29 V\
     23 permitted option A          30 s\
     24 permitted option B       32-33 s\
     25 permitted reference         34 s\
@@ -80,7 +80,7 @@ const TITLES: [u8; TITLE_BYTES] = *b"no entry                     book :\
     no beside the lines          book :\
     23 own volume of left lane     25 v\
     23 own left equivalents        27 f\
-    23 own saturation A            29 v\
+    23 own saturation A            29 V\
     R  cross through               47 s\
     R  oncoming left               49 s";
 

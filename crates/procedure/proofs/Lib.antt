@@ -1,3 +1,4 @@
 pub mod Fair
 pub mod Compared
+pub mod Finer
 pub mod Reading

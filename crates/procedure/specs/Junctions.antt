@@ -1,4 +1,4 @@
--- "Junctions to compare": K1 to K10.
+-- "Junctions to compare": K1 to K10, their flows in tenths of a vehicle per hour (Request Five).
 use mathlib.Core.List.{List, [], _∷_, _++_}
 use Prim.Native.Nat.{ℕ, _*_}
 use lib.ListN.{getD, set}
@@ -8,7 +8,7 @@ use Rattle.procedure.specs.Approach.{readApproach}
 use Rattle.procedure.specs.Lines.{leftShare, equivalent, leftA}
 use Rattle.procedure.specs.Pairs.{line, letterOf}
 use Rattle.layout.specs.Entries.{EB, WB, left, through, volumeNo, walkersNo, crossingNo, movementPlace, approachPlace}
-use Rattle.layout.specs.Sheet.{BLANK, protectedCell, permittedCell, splitCell, pickCell, requiredCell, icuCell, letterCell}
+use Rattle.layout.specs.Sheet.{BLANK, protectedCell, permittedCell, splitCell, pickCell, combinedCell, requiredCell, icuCell, letterCell}
 use Rattle.procedure.specs.Sheet.{linesAt, sheet}
 
 -- a movement: lanes and volume; "flows 1,900, lost and minimum 4,000"
@@ -66,17 +66,18 @@ cell e k = getD (sheet e) k 0
 -- every number that the paper gives for K1 to K10, worked out: a row for each junction
 abbrev pub workedOut : List (List ℕ)
 workedOut =
-    (line 13 (eb K1) ∷ line 16 (eb K1) ∷ line 14 (eb K1) ∷ line 17 (eb K1) ∷ cell K1 (protectedCell 0) ∷ cell K1 requiredCell
-    ∷ cell K1 icuCell ∷ cell K1 letterCell ∷ [])
-    ∷ (line 4 (eb K2) ∷ line 6 (eb K2) ∷ line 20 (eb K2) ∷ line 21 (eb K2) ∷ line 22 (eb K2) ∷ line 23 (eb K2)
-    ∷ cell K2 (splitCell 0) ∷ cell K2 (permittedCell 0) ∷ cell K2 (pickCell 0) ∷ cell K2 icuCell ∷ cell K2 letterCell ∷ [])
+    (line 5 (eb K1) ∷ line 6 (eb K1) ∷ line 13 (eb K1) ∷ line 16 (eb K1) ∷ line 14 (eb K1) ∷ line 17 (eb K1) ∷ cell K1 (protectedCell 0)
+    ∷ cell K1 requiredCell ∷ cell K1 icuCell ∷ cell K1 letterCell ∷ [])
+    ∷ (line 4 (eb K2) ∷ line 6 (eb K2) ∷ line 20 (eb K2) ∷ line 21 (eb K2) ∷ line 22 (eb K2) ∷ line 23 (eb K2) ∷ cell K2 (splitCell 0)
+    ∷ cell K2 (permittedCell 0) ∷ cell K2 (pickCell 0) ∷ cell K2 combinedCell ∷ cell K2 icuCell ∷ cell K2 letterCell ∷ [])
     ∷ (decayNumber (2 * 60 * 120) ∷ line 12 (eb K3) ∷ line 17 (eb K3) ∷ [])
     ∷ (cell K4 icuCell ∷ cell K4 letterCell ∷ cell K4 (pickCell 0) ∷ cell K4 (pickCell 1) ∷ [])
     ∷ (letterOf 550 ∷ [])
     ∷ (letterOf 551 ∷ [])
     ∷ (line 24 (eb K7) ∷ [])
     ∷ (line 24 (eb K8) ∷ [])
-    ∷ (line 23 (eb K9) ∷ equivalent whole (leftShare (readApproach K9 WB)) 120 ∷ leftA (readApproach K9 EB) (readApproach K9 WB) 120 ∷ [])
+    ∷ (line 5 (eb K9) ∷ line 23 (eb K9) ∷ equivalent whole (leftShare (readApproach K9 WB)) 120
+    ∷ leftA (readApproach K9 EB) (readApproach K9 WB) 120 ∷ [])
     ∷ (line 23 (eb K10) ∷ [])
     ∷ []
 
@@ -99,17 +100,17 @@ P = 0
 abbrev pub M : ℕ
 M = 1
 
--- and as the paper gives them
+-- and as the papers give them
 abbrev pub given : List (List ℕ)
 given =
-    (6_649 ∷ 10_649 ∷ 25_264 ∷ 29_264 ∷ 39_913 ∷ 79_826 ∷ 666 ∷ C ∷ [])
-    ∷ (9_603 ∷ 1_824 ∷ 2_000 ∷ 29_455 ∷ 1_312 ∷ 45_732 ∷ 73_790 ∷ 49_732 ∷ M ∷ 829 ∷ letterE ∷ [])
+    (18_050 ∷ 19_000 ∷ 6_649 ∷ 10_649 ∷ 25_264 ∷ 29_264 ∷ 39_913 ∷ 79_826 ∷ 666 ∷ C ∷ [])
+    ∷ (9_603 ∷ 18_245 ∷ 2_000 ∷ 29_455 ∷ 13_132 ∷ 45_690 ∷ 73_772 ∷ 49_690 ∷ M ∷ 99_380 ∷ 829 ∷ letterE ∷ [])
     ∷ (135_335_283 ∷ 8_647 ∷ 42_007 ∷ [])
     ∷ (0 ∷ A ∷ P ∷ P ∷ [])
     ∷ (A ∷ [])
     ∷ (B ∷ [])
     ∷ (25_264 ∷ [])
     ∷ (BLANK ∷ [])
-    ∷ (118_000 ∷ 300_000 ∷ 60 ∷ [])
+    ∷ (18_050 ∷ 117_804 ∷ 300_000 ∷ 601 ∷ [])
     ∷ (BLANK ∷ [])
     ∷ []

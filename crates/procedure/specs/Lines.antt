@@ -1,6 +1,6 @@
 -- "The lines" of an approach s: for each its formula, in the paper's letters, and the line itself.
--- o is the oncoming approach, CL the cycle in seconds. Flows are vehicles per hour, rounded down; factors and shares
--- ten-thousandths; times ms, rounded up.
+-- o is the oncoming approach, CL the cycle in seconds. Volumes are vehicles per hour; flows tenths of a vehicle per hour (`flowUnit`),
+-- rounded down; factors and shares ten-thousandths; times ms, rounded up.
 use mathlib.Core.Bool.{Bool, cond, not, _&&_, _||_}
 use mathlib.Core.List.{List, [], _∷_, _++_}
 use Prim.Native.Nat.{ℕ, _+_, _-_, _*_, _/_, max, min}
@@ -43,7 +43,8 @@ turningT vC a b = cond (eqb vC 0) whole ((100 * vC - 15 * a) * (100 * vC - 5 * b
 unfoldable pub fT : Approach → ℕ
 fT s = turningT (vC s) (a s) (b s)
 
--- 5–7 "flows of L, T, R: i·n·lane factor·f/10⁷, f being 9,500, fT, 8,500. No lanes: 0.", in the flows' unit
+-- 5–7 "flows of L, T, R: i·n·lane factor·f/10⁷, f being 9,500, fT, 8,500. No lanes: 0."; Request Five: "tenths of a vehicle per
+-- hour, still rounded down", so over 10⁶. The ideal flow i is an entry, whole vehicles per hour.
 unfoldable pub flowOf : Group → ℕ → ℕ → ℕ → ℕ
 flowOf g i n f = cond (eqb n 0) 0 (i * n * laneFactor g n * f / (10_000_000 / flowUnit))
 
@@ -83,7 +84,7 @@ frequency p button CL = cond (eqb p 0) 0 (cond button (whole - D (2 * p * CL) / 
 unfoldable pub F : Approach → ℕ → ℕ
 F s CL = frequency (p s) (hasButton s) CL
 
--- "1000·v·CL/flow, up", the flow in its unit
+-- "1000·v·CL/flow, up"; Request Five: "Times use 10,000·v·CL over the flow". Where the lines below quote the first, this is meant.
 unfoldable pub time : ℕ → ℕ → ℕ → ℕ
 time v CL flow = up (1000 * flowUnit * v * CL) flow
 
@@ -150,7 +151,7 @@ equivalent q o CL = up ((500_000_000 + 80_000 * q - 3 * (q * q)) * CL) (10 * (2 
 unfoldable pub E : Approach → Approach → ℕ → ℕ
 E s o CL = part (vC s) (equivalent (q s) (leftShare o) CL)
 
--- 22 "sA = line 6 × ⌊10¹²/(10⁸ + q(E−10⁴))⌋ / (n·10⁴), down"
+-- 22 "sA = line 6 × ⌊10¹²/(10⁸ + q(E−10⁴))⌋ / (n·10⁴), down": in the unit of the flow that it is of
 unfoldable pub flowA : ℕ → ℕ → ℕ → ℕ → ℕ
 flowA flow q E n = flow * (1_000_000_000_000 / (100_000_000 + q * E - whole * q)) / (n * whole)
 
@@ -190,7 +191,7 @@ unless-empty s x = cond (empty s) 0 x
 unfoldable pub line23 : Approach → Approach → ℕ → ℕ
 line23 s o CL = unless-empty s (cond (allowedA s o) (optionA s o CL) BLANK)
 
--- "with sB = line 6, or ⌊line 6·(n−1)/n⌋ if shared"
+-- "with sB = line 6, or ⌊line 6·(n−1)/n⌋ if shared"; Request Five: "and the ⌊⌋ in sB likewise", in tenths
 unfoldable pub sB : Approach → ℕ
 sB s = cond (isShared s) (flow s Through * (n s Through - 1) / n s Through) (flow s Through)
 
@@ -199,7 +200,7 @@ abbrev pub waiting : ℕ
 waiting = 8_000
 
 -- 24 "the larger of 8,000 + 1000·vST·CL/sST up − ⌊8000·sB/sST⌋ + line 11; and 8,000 + 1000·vL·CL/sSL up";
--- "lefts of 0 add nothing to 24 and 27"
+-- "lefts of 0 add nothing to 24 and 27"; Request Five: "8000·sB/sST is unchanged in form", a ratio of two flows
 unfoldable pub throughB : ℕ → ℕ → ℕ → ℕ → ℕ → ℕ
 throughB vST sST sB interference CL = waiting + time vST CL sST - waiting * sB / sST + interference
 

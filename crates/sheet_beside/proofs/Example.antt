@@ -1,4 +1,4 @@
--- K9: line 23's 118,000 is 59 lefts in a lane whose own E is 300,000 and own sA 60.
+-- K9: line 23's 117,804 is 59 lefts in a lane whose own E is 300,000 and own sA 60.1 vehicles per hour.
 use mathlib.Core.Path.{_≡_, refl}
 use mathlib.Core.List.{[], _∷_}
 use lib.ListN.{take}
@@ -11,7 +11,7 @@ use Rattle.procedure.specs.Sheet.{linesAt, sheet}
 use Rattle.procedure.specs.Junctions.{K9}
 use Rattle.sheet_beside.specs.Beside.{ownLane, added, besideAt, besideOf, beside}
 
-pub own-lane-of-K9 : take 5 (beside K9) ≡ (59 ∷ 300_000 ∷ 60 ∷ 0 ∷ 0 ∷ [])
+pub own-lane-of-K9 : take 5 (beside K9) ≡ (59 ∷ 300_000 ∷ 601 ∷ 0 ∷ 0 ∷ [])
 unfolding besideOf besideAt ownLane added up laneFactor movementEntry approachEntry readMovement readApproach volume flowOf flow single
     leftShare equivalent flowA leftA firstLines lines linesAt sheet
 own-lane-of-K9 = refl

@@ -1,6 +1,6 @@
--- The bound of a quotient that is rounded up.
-use Prim.Native.Nat.{ℕ, zero, suc, _+_, _-_, _*_, _≤_}
-use native.Mathlib.Nat.{div-lt-iff-lt-mul, div-zero, suc-mul, le-of-suc-le-suc}
+-- The bounds of a quotient that is rounded up.
+use Prim.Native.Nat.{ℕ, zero, suc, _+_, _-_, _*_, _≤_, _<_}
+use native.Mathlib.Nat.{div-lt-iff-lt-mul, div-zero, div-add-mod', mod-lt, suc-mul, le-of-suc-le-suc}
 use native.Mathlib.Omega.{arith}
 use Rattle.units.specs.Rounding.{up}
 
@@ -11,3 +11,8 @@ up-most q a zero h = omega (arith, div-zero (a + (0 - 1)))
 up-most q a (suc b) h =
     le-of-suc-le-suc
     (div-lt-iff-lt-mul {k = suc b} {x = a + (suc b - 1)} {y = suc q} (omega arith) .1 (omega (arith, suc-mul q (suc b))))
+
+-- and what was divided is at most that many times the divisor
+pub up-least : (a b : ℕ) → 0 < b → a ≤ up a b * b
+unfolding up
+up-least a b h = omega (arith, div-add-mod' (a + (b - 1)) b, mod-lt (a + (b - 1)) h)

@@ -8,13 +8,17 @@ ghost use Rattle.units.specs.Rounding.{up};
 // Milliseconds.
 pub struct Ms(pub u32);
 
-// Vehicles per hour, as they are counted and as a lane's ideal flow is given.
+// Whole vehicles per hour, as they are counted and as a lane's ideal flow is given.
 pub struct Vph(pub u32);
 
 // What lanes carry, in parts of a vehicle per hour, of which FLOW_UNIT make a whole one.
 pub struct Flow(pub u32);
 
-pub const FLOW_UNIT: u64 = 1;
+// Tenths.
+pub const FLOW_UNIT: u64 = 10;
+
+// With how many decimals a flow is shown in vehicles per hour.
+pub const FLOW_DECIMALS: usize = 1;
 
 // All of something, in the ten-thousandths of factors, shares and frequencies.
 pub const WHOLE: u32 = 10_000;

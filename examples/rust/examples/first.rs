@@ -34,6 +34,9 @@ fn print(sheet: &Sheet) {
         sheet.letter()
     );
     println!("east-west lefts: {:?}", sheet.picked(Pair::EastWest));
+    if let Some(flow) = sheet.flow(Approach::Eastbound, 5) {
+        println!("the left lane from the west carries {flow} vehicles per hour");
+    }
 }
 
 fn main() -> Result<(), Refusal> {

@@ -35,7 +35,7 @@ pub enum Entry {
     Lanes(Approach, Turn),
     /// Vehicles per hour.
     Volume(Approach, Turn),
-    /// Ideal flow of a lane, vehicles per hour.
+    /// Ideal flow of a lane, whole vehicles per hour.
     IdealFlow(Approach, Turn),
     /// Milliseconds.
     LostTime(Approach, Turn),

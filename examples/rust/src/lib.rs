@@ -18,4 +18,4 @@ mod sys;
 
 pub use entries::{Approach, Entries, Entry, Turn};
 pub use refusal::Refusal;
-pub use sheet::{Pair, Phasing, Sheet};
+pub use sheet::{Flow, Pair, Phasing, Sheet};

@@ -1,6 +1,7 @@
 //! A filled worksheet.
 
 use crate::{sys, Approach, Entries, Entry, Refusal};
+use std::fmt;
 
 const BLANK: u32 = u32::MAX;
 const LINES: usize = 28;
@@ -21,6 +22,31 @@ pub enum Phasing {
     Protected,
     Permitted,
     Split,
+}
+
+/// What lanes carry: a flow in tenths of a vehicle per hour. Volumes and ideal flows, which are entries, are whole vehicles.
+#[derive(Clone, Copy, Debug, PartialEq, Eq, PartialOrd, Ord, Hash)]
+pub struct Flow(u32);
+
+impl Flow {
+    /// How many parts make a vehicle per hour.
+    pub const UNIT: u32 = 10;
+
+    pub fn tenths(self) -> u32 {
+        self.0
+    }
+
+    /// Whole vehicles per hour, what is above them cut off.
+    pub fn whole(self) -> u32 {
+        self.0 / Flow::UNIT
+    }
+}
+
+/// Vehicles per hour with one decimal, as a sheet prints them.
+impl fmt::Display for Flow {
+    fn fmt(&self, f: &mut fmt::Formatter<'_>) -> fmt::Result {
+        write!(f, "{}.{}", self.0 / Flow::UNIT, self.0 % Flow::UNIT)
+    }
 }
 
 /// The 209 cells of a junction. Only a fill makes one, so it always holds a rating.
@@ -59,10 +85,17 @@ impl Sheet {
         Entries::from(numbers)
     }
 
-    /// Line 1 to 28 of an approach; none where an option is not allowed or there is no such line.
+    /// Line 1 to 28 of an approach, in the line's own unit: volumes vehicles per hour, flows tenths of one, times milliseconds,
+    /// factors and shares ten-thousandths. None where an option is not allowed or there is no such line.
     pub fn line(&self, approach: Approach, number: usize) -> Option<u32> {
         let line = (1..=LINES).contains(&number).then(|| number - 1)?;
         allowed(self.0[FIRST_LINE + LINES * approach as usize + line])
+    }
+
+    /// A line that is a flow: 5 to 9 or 22 of an approach; none for any other.
+    pub fn flow(&self, approach: Approach, number: usize) -> Option<Flow> {
+        matches!(number, 5..=9 | 22).then_some(())?;
+        self.line(approach, number).map(Flow)
     }
 
     /// A pair's total in milliseconds; none where the phasing is not allowed.

@@ -29,7 +29,24 @@ fn shared_lanes() {
     assert_eq!((sheet.icu(), sheet.letter()), (829, 'E'));
     assert_eq!(sheet.total(Pair::EastWest, Phasing::Protected), None);
     assert_eq!(sheet.picked(Pair::EastWest), Phasing::Permitted);
-    assert_eq!(sheet.line(Approach::Eastbound, 23), Some(45_732));
+    assert_eq!(sheet.line(Approach::Eastbound, 23), Some(45_690));
+}
+
+#[test]
+fn flows_have_their_unit() {
+    let eb = Approach::Eastbound;
+    let shared = Sheet::fill(&junction([0, 1, 0], [100, 300, 100], 1)).unwrap();
+    let flows: Vec<_> = (0..=30).filter_map(|k| shared.flow(eb, k)).collect();
+    assert_eq!(
+        flows.iter().map(|f| f.tenths()).collect::<Vec<_>>(),
+        [0, 18_245, 0, 18_287, 18_050, 13_132]
+    );
+    let through = shared.flow(eb, 6).unwrap();
+    assert_eq!((through.whole(), through.to_string().as_str()), (1_824, "1824.5"));
+    assert_eq!(shared.line(eb, 6), Some(through.tenths()));
+    let plain = Sheet::fill(&plain()).unwrap();
+    assert_eq!([5, 6].map(|k| plain.flow(eb, k).unwrap().tenths()), [18_050, 19_000]);
+    assert_eq!([2, 13, 23].map(|k| plain.flow(eb, k)), [None; 3]);
 }
 
 #[test]

@@ -193,6 +193,47 @@ fn closed_leg(rng: &mut Rng, e: &mut Entries, a: usize) {
     e[own + 3] = rng.pick(&[0, 500, 4_000, 16_000, 60_000]);
 }
 
+/// Lanes of left, through and right with the shared flag, and volumes.
+fn put_lanes(e: &mut Entries, a: usize, lanes: [u32; 4], volumes: [u32; 3]) {
+    for turn in 0..3 {
+        e[15 * a + 5 * turn] = lanes[turn];
+        e[15 * a + 5 * turn + 1] = volumes[turn];
+    }
+    e[60 + 5 * a] = lanes[3];
+}
+
+/// Several shared lanes against a quiet approach: the flow behind their lefts is cut once more, and option B goes by it.
+fn quiet_across(rng: &mut Rng, e: &mut Entries, a: usize) {
+    let lefts = rng.pick(&[59, 60, 90, 200]);
+    let volumes = [lefts, rng.within(100, 900), rng.within(0, 90)];
+    put_lanes(e, a, [0, rng.within(2, 6), 0, 1], volumes);
+    let rights = rng.within(0, 20);
+    let volumes = [rng.within(0, 61), rng.within(99, 121) - rights, rights];
+    put_lanes(e, a ^ 1, [0, rng.within(1, 3), 0, 1], volumes);
+}
+
+/// Lefts that hardly get through in a long cycle: a flow of some 15 vehicles an hour, of which a tenth is much.
+fn slowest_lefts(rng: &mut Rng, e: &mut Entries, a: usize) {
+    let lefts = rng.within(1, 59);
+    match rng.once_in(2) {
+        true => put_lanes(e, a, [1, 1, 0, 0], [lefts, rng.within(0, 300), 0]),
+        false => put_lanes(e, a, [0, rng.within(1, 2), 0, 1], [lefts, rng.within(0, 9), 0]),
+    }
+    e[CYCLE] = rng.pick(&[240, 240, 239, 180, 120]);
+}
+
+/// A bus gate: ideal flows of about 1,000, where a flow cut to whole vehicles would show most.
+fn bus_gate(rng: &mut Rng, e: &mut Entries, a: usize) {
+    match rng.below(4) {
+        0 => quiet_across(rng, e, a),
+        1 => slowest_lefts(rng, e, a),
+        _ => {}
+    }
+    for turn in 0..3 {
+        e[15 * a + 5 * turn + 2] = rng.pick(&[1_000, 1_000, 1_001, 1_003, 1_007, 1_009]);
+    }
+}
+
 fn copy_approach(e: &mut Entries, from: usize, to: usize) {
     e.copy_within(15 * from..15 * from + 15, 15 * to);
     e.copy_within(60 + 5 * from..65 + 5 * from, 60 + 5 * to);
@@ -255,6 +296,10 @@ pub fn acceptable(rng: &mut Rng) -> Entries {
     if rng.once_in(6) {
         let a = rng.below(4);
         closed_leg(rng, &mut e, a);
+    }
+    if rng.once_in(5) {
+        let a = rng.below(4);
+        bus_gate(rng, &mut e, a);
     }
     match rng.below(8) {
         // Equal approaches bring equal totals, where the earlier must win.

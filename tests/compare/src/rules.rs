@@ -1,6 +1,9 @@
 //! The rules of the worksheet in plain Rust, written from the paper alone.
 //! Numbers are worked out in 64 bits, where nothing in an acceptable junction overflows.
-//! What fills and interchanges share is `inline(always)`: left to the compiler, two callers cost a fill half its time again.
+//! Where flows count, UNIT says how many of a flow's units are one vehicle per hour: 10 as the rules read now, 1 as they read
+//! before; it divides 10,000.
+//! What fills and interchanges share is `inline(always)`: left to the compiler, two callers cost a fill half its time again; and
+//! so is what a function with a UNIT calls once, which the compiler would otherwise keep apart, a tenth of a fill's time.
 
 pub const BLANK: u32 = u32::MAX;
 pub const ENTRIES: usize = 81;
@@ -8,6 +11,8 @@ pub const CELLS: usize = 209;
 pub const CYCLE: usize = 80;
 pub const LINES: usize = 28;
 pub const SITES: usize = 180;
+/// Flows are in tenths of a vehicle per hour.
+pub const FLOW_UNIT: u64 = 10;
 /// Where the lines, the pair cells and the last eight begin in a sheet.
 pub const FIRST_LINE: usize = 81;
 pub const PAIRS: usize = 193;
@@ -252,12 +257,12 @@ struct Oncoming {
     straight: u64,
 }
 
-/// 1000·v·CL over a flow, up; a part without volume takes no time.
-fn green(volume: u64, cycle: u64, flow: u64) -> u64 {
+/// 1000·v·CL over a flow, the volume turned into the flow's unit, up; a part without volume takes no time.
+fn green<const UNIT: u64>(volume: u64, cycle: u64, flow: u64) -> u64 {
     if volume == 0 {
         return 0;
     }
-    (1_000 * volume * cycle).div_ceil(flow)
+    (1_000 * UNIT * volume * cycle).div_ceil(flow)
 }
 
 #[inline(always)]
@@ -291,8 +296,9 @@ fn lanes_flow(x: &Movement, factors: &[u64; 3]) -> u64 {
     x.ideal * x.lanes * factors[x.lanes.min(3) as usize - 1]
 }
 
+/// Lanes and a factor give 10⁷ for each vehicle per hour: fewer for each unit of a flow.
 #[inline(always)]
-fn flows(x: &Approach, v: &Volumes) -> Flows {
+fn flows<const UNIT: u64>(x: &Approach, v: &Volumes) -> Flows {
     let (c, a, b) = (v.through, v.folded_right, v.folded_left);
     // Without folded turns both factors are 10,000 exactly, and without lefts they are one.
     let turning = match a + b {
@@ -305,15 +311,15 @@ fn flows(x: &Approach, v: &Volumes) -> Flows {
         _ => 100 * (100 * v.straight - 15 * a) / v.straight,
     };
     let through = lanes_flow(&x.through, &THROUGH_FACTORS);
-    let left = lanes_flow(&x.left, &LEFT_FACTORS) * 9_500 / 10_000_000;
+    let left = lanes_flow(&x.left, &LEFT_FACTORS) * 9_500 / (10_000_000 / UNIT);
     Flows {
         turning,
         left,
-        through: through * turning / 10_000_000,
-        right: lanes_flow(&x.right, &RIGHT_FACTORS) * 8_500 / 10_000_000,
-        straight: through * going / 10_000_000,
+        through: through * turning / (10_000_000 / UNIT),
+        right: lanes_flow(&x.right, &RIGHT_FACTORS) * 8_500 / (10_000_000 / UNIT),
+        straight: through * going / (10_000_000 / UNIT),
         alone: if x.shared {
-            x.left.ideal * 9_500 / 10_000
+            x.left.ideal * 9_500 / (10_000 / UNIT)
         } else {
             left
         },
@@ -355,12 +361,12 @@ fn walking(x: &Approach, v: &Volumes, cycle: u64) -> Walking {
 }
 
 #[inline(always)]
-fn own(e: &[u32; ENTRIES], a: usize, cycle: u64) -> Own {
+fn own<const UNIT: u64>(e: &[u32; ENTRIES], a: usize, cycle: u64) -> Own {
     let entries = Approach::read(e, a);
     let volumes = volumes(&entries);
-    let flows = flows(&entries, &volumes);
+    let flows = flows::<UNIT>(&entries, &volumes);
     let walking = walking(&entries, &volumes, cycle);
-    let reference_through = green(volumes.through, cycle, flows.through) + walking.through;
+    let reference_through = green::<UNIT>(volumes.through, cycle, flows.through) + walking.through;
     Own {
         entries,
         volumes,
@@ -418,13 +424,13 @@ fn adjusted(x: &Movement, volume: u64, reference: u64) -> u64 {
 
 /// Lines 1 to 18.
 #[inline(always)]
-fn first_lines(x: &Own, cycle: u64, line: &mut [u32; LINES]) {
+fn first_lines<const UNIT: u64>(x: &Own, cycle: u64, line: &mut [u32; LINES]) {
     let (e, v, f, w) = (&x.entries, &x.volumes, &x.flows, &x.walking);
-    let left = green(v.left, cycle, f.left);
+    let left = green::<UNIT>(v.left, cycle, f.left);
     let through = x.reference_through;
     let right = match v.right {
         0 => 0,
-        _ => green(v.right, cycle, f.right) + w.right,
+        _ => green::<UNIT>(v.right, cycle, f.right) + w.right,
     };
     let through_adjusted = match v.through {
         0 => x.crossing(),
@@ -459,7 +465,8 @@ fn first_lines(x: &Own, cycle: u64, line: &mut [u32; LINES]) {
 pub(crate) fn adjusted_lines(entries: &[u32; ENTRIES], a: usize) -> [u32; 3] {
     let cycle = u64::from(entries[CYCLE]);
     let mut line = [0; LINES];
-    first_lines(&own(entries, a, cycle), cycle, &mut line);
+    let own = own::<FLOW_UNIT>(entries, a, cycle);
+    first_lines::<FLOW_UNIT>(&own, cycle, &mut line);
     [line[15], line[16], line[17]]
 }
 
@@ -470,7 +477,7 @@ fn equivalent(q: u64, cycle: u64, share: u64) -> u64 {
     (num * cycle).div_ceil(10 * den)
 }
 
-/// One lane's flow with its lefts waiting for gaps.
+/// One lane's flow with its lefts waiting for gaps, in the unit of the flow of all lanes.
 fn hindered(flow: u64, lanes: u64, q: u64, e: u64) -> u64 {
     // q·E first: E may be below 10,000, the whole sum never is below 0.
     let slowing = 1_000_000_000_000 / (100_000_000 + q * e - 10_000 * q);
@@ -478,6 +485,7 @@ fn hindered(flow: u64, lanes: u64, q: u64, e: u64) -> u64 {
 }
 
 /// Lines 19 to 22, all 0 where T has no volume.
+#[inline(always)]
 fn left_lane(x: &Own, across: &Oncoming, cycle: u64) -> [u64; 4] {
     let (c, b, n) = (
         x.volumes.through,
@@ -499,21 +507,21 @@ fn left_lane(x: &Own, across: &Oncoming, cycle: u64) -> [u64; 4] {
 }
 
 /// Line 23 where it is allowed.
-fn option_a(x: &Own, lane: &[u64; 4], across: &Oncoming, cycle: u64) -> u64 {
+fn option_a<const UNIT: u64>(x: &Own, lane: &[u64; 4], across: &Oncoming, cycle: u64) -> u64 {
     let (v, w) = (&x.volumes, &x.walking);
     let mut most = 0;
     if v.through > 0 {
         let all = x.reference_through - w.through;
-        most = all.max(green(lane[0], cycle, lane[3]) + w.through);
+        most = all.max(green::<UNIT>(lane[0], cycle, lane[3]) + w.through);
     }
     if v.left > 0 {
         let lanes = x.entries.left.lanes;
         let e = equivalent(10_000, cycle, across.share);
         let flow = hindered(x.flows.left, lanes, 10_000, e);
-        let all = green(v.left, cycle, x.flows.left);
+        let all = green::<UNIT>(v.left, cycle, x.flows.left);
         most = most
             .max(all)
-            .max(green(v.left.div_ceil(lanes), cycle, flow));
+            .max(green::<UNIT>(v.left.div_ceil(lanes), cycle, flow));
     }
     most
 }
@@ -536,7 +544,7 @@ fn option_b(x: &Own, straight: u64, alone: u64) -> u64 {
 }
 
 /// Lines 19 to 28.
-fn later_lines(x: &Own, across: &Oncoming, cycle: u64, line: &mut [u32; LINES]) {
+fn later_lines<const UNIT: u64>(x: &Own, across: &Oncoming, cycle: u64, line: &mut [u32; LINES]) {
     let lane = left_lane(x, across, cycle);
     for (cell, number) in line[18..22].iter_mut().zip(lane) {
         *cell = number as u32;
@@ -548,10 +556,10 @@ fn later_lines(x: &Own, across: &Oncoming, cycle: u64, line: &mut [u32; LINES]) 
         return;
     }
     let vl = x.entries.left.volume;
-    let straight = green(x.volumes.straight, cycle, x.flows.straight);
-    let alone = green(vl, cycle, x.flows.alone);
+    let straight = green::<UNIT>(x.volumes.straight, cycle, x.flows.straight);
+    let alone = green::<UNIT>(vl, cycle, x.flows.alone);
     let a = match vl < 60 || across.single {
-        true => option_a(x, &lane, across, cycle) as u32,
+        true => option_a::<UNIT>(x, &lane, across, cycle) as u32,
         false => BLANK,
     };
     let b = match across.straight <= 120 {
@@ -624,6 +632,7 @@ fn right_total(own: &[Own; 4], line: &[[u32; LINES]; 4], picked: [u32; 2], a: us
     alone + through_time(&line[cross], picked[cross / 2]) + left_time(&line[a ^ 1], picked[a / 2])
 }
 
+#[inline(always)]
 fn last_eight(
     own: &[Own; 4],
     line: &[[u32; LINES]; 4],
@@ -645,14 +654,14 @@ fn last_eight(
 // ---------------------------------------------------------------- fill and amend
 
 /// The whole sheet of entries already found acceptable.
-fn work_out(entries: &[u32; ENTRIES], sheet: &mut [u32; CELLS]) {
+fn work_out<const UNIT: u64>(entries: &[u32; ENTRIES], sheet: &mut [u32; CELLS]) {
     let cycle = u64::from(entries[CYCLE]);
-    let own: [Own; 4] = std::array::from_fn(|a| own(entries, a, cycle));
+    let own: [Own; 4] = std::array::from_fn(|a| own::<UNIT>(entries, a, cycle));
     let mut line = [[0u32; LINES]; 4];
     for a in 0..4 {
         let across = own[a ^ 1].seen_from_across();
-        first_lines(&own[a], cycle, &mut line[a]);
-        later_lines(&own[a], &across, cycle, &mut line[a]);
+        first_lines::<UNIT>(&own[a], cycle, &mut line[a]);
+        later_lines::<UNIT>(&own[a], &across, cycle, &mut line[a]);
     }
     let pairs = [pair(&own[..2], &line[..2]), pair(&own[2..], &line[2..])];
     let last = last_eight(&own, &line, &pairs, entries[CYCLE]);
@@ -665,17 +674,23 @@ fn work_out(entries: &[u32; ENTRIES], sheet: &mut [u32; CELLS]) {
     sheet[LAST..].copy_from_slice(&last);
 }
 
-/// Judges the entries and writes the 209 cells; nothing is written on a refusal.
-pub fn fill(entries: &[u32], sheet: &mut [u32]) -> Answer {
+/// Judges the entries and writes the 209 cells, flows in the unit asked for; nothing is written on a refusal.
+#[inline(always)]
+pub fn fill_in<const UNIT: u64>(entries: &[u32], sheet: &mut [u32]) -> Answer {
     let (Ok(entries), Ok(sheet)) = (entries.try_into(), sheet.try_into()) else {
         return refused(SIZE, 0);
     };
     let entries: &[u32; ENTRIES] = entries;
     let answer = judge(entries);
     if answer == ACCEPTED {
-        work_out(entries, sheet);
+        work_out::<UNIT>(entries, sheet);
     }
     answer
+}
+
+/// The same with flows as the rules have them.
+pub fn fill(entries: &[u32], sheet: &mut [u32]) -> Answer {
+    fill_in::<FLOW_UNIT>(entries, sheet)
 }
 
 /// A set of an approach's lines, bit k−1 for line k.
@@ -752,7 +767,7 @@ pub fn amend(sheet: &mut [u32], entry: u32, value: u32) -> Answer {
     let answer = judge(&entries);
     if answer == ACCEPTED {
         let mut fresh = [0; CELLS];
-        work_out(&entries, &mut fresh);
+        work_out::<FLOW_UNIT>(&entries, &mut fresh);
         copy_reached(sheet, &fresh, entry as usize);
     }
     answer

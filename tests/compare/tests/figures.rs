@@ -1,5 +1,5 @@
-//! Every figure the paper gives for K1 to K10, its listing, the book's third example and two offices'
-//! steps in one study, against the plain rules.
+//! Every figure the paper gives for K1 to K10, its listing, the book's third example, bus gates and two
+//! offices' steps in one study, against the plain rules.
 
 use compare::rules::*;
 use compare::{diamond, open};
@@ -51,6 +51,7 @@ fn with(mut e: [u32; ENTRIES], changes: &[(usize, u32)]) -> [u32; ENTRIES] {
 fn k1_plain() {
     let s = sheet(&k1());
     for a in 0..4 {
+        assert_eq!([5, 6].map(|k| line(&s, a, k)), [18_050, 19_000]);
         assert_eq!(
             [13, 16, 14, 17].map(|k| line(&s, a, k)),
             [6_649, 10_649, 25_264, 29_264]
@@ -68,10 +69,60 @@ fn k2_shared() {
     let s = sheet(&k2());
     for a in 0..4 {
         let lines = [4, 6, 20, 21, 22, 23].map(|k| line(&s, a, k));
-        assert_eq!(lines, [9_603, 1_824, 2_000, 29_455, 1_312, 45_732]);
+        assert_eq!(lines, [9_603, 18_245, 2_000, 29_455, 13_132, 45_690]);
     }
+    assert_eq!(s[PAIRS..PAIRS + 4], [BLANK, 49_690, 73_772, 1]);
+    assert_eq!(s[LAST + 4..], [99_380, 99_380, 829, 4]);
+}
+
+/// The figures that the rules gave before flows were in tenths.
+#[test]
+fn in_whole_vehicles() {
+    let mut s = [0; CELLS];
+    assert_eq!(fill_in::<1>(&k2(), &mut s), ACCEPTED);
+    let lines = [4, 6, 20, 21, 22, 23].map(|k| line(&s, 0, k));
+    assert_eq!(lines, [9_603, 1_824, 2_000, 29_455, 1_312, 45_732]);
     assert_eq!(s[PAIRS..PAIRS + 4], [BLANK, 49_732, 73_790, 1]);
-    assert_eq!(s[LAST + 6..], [829, 4]);
+    assert_eq!(fill_in::<1>(&with(k1(), &[(1, 59)]), &mut s), ACCEPTED);
+    assert_eq!([5, 13, 23].map(|k| line(&s, 0, k)), [1_805, 3_923, 118_000]);
+    assert_eq!(fill_in::<1>(&k1(), &mut s), ACCEPTED);
+    assert_eq!(s[LAST + 5..], [79_826, 666, 2]);
+}
+
+/// One eastbound approach at a gate, everything else as in K1.
+fn gate(ideals: [u32; 3], turns: [(u32, u32); 3], shared: u32) -> [u32; ENTRIES] {
+    let mut e = k1();
+    put_leg(&mut e, 0, turns);
+    for (turn, ideal) in ideals.into_iter().enumerate() {
+        e[5 * turn + 2] = ideal;
+    }
+    e[60] = shared;
+    e
+}
+
+#[test]
+fn bus_gates() {
+    let found = |e: &[u32; ENTRIES], lines: &[usize]| -> Vec<u32> {
+        let s = sheet(e);
+        lines.iter().map(|&k| line(&s, 0, k)).collect()
+    };
+    // one lane for 17, 110 and 23: fT 9,714, f 9,740, q 1,134, E 316,255
+    let e = gate([1_000; 3], [(0, 17), (1, 110), (0, 23)], 1);
+    assert_eq!(found(&e, &[6, 8, 9, 22]), [9_714, 9_740, 9_500, 2_171]);
+    // 59 lefts in a lane of their own: E 300,000, sA 31.6
+    let e = gate([1_000; 3], [(1, 59), (1, 85), (0, 0)], 0);
+    assert_eq!(found(&e, &[5, 13, 23]), [9_500, 7_453, 224_051]);
+    // three lanes at 1,003, two right lanes at 1,000
+    let e = gate([1_003, 1_003, 1_000], [(3, 480), (3, 700), (2, 900)], 0);
+    assert_eq!(found(&e, &[5, 6, 7, 15]), [27_756, 27_321, 15_045, 71_785]);
+    // two shared lanes, 120 westbound: sB is 9,343 of 18,687
+    let mut e = gate([1_000; 3], [(0, 90), (2, 650), (0, 70)], 1);
+    e[21] = 120;
+    assert_eq!(found(&e, &[6, 8, 23, 24]), [18_687, 18_762, BLANK, 50_068]);
+    // 300 lefts of a shared lane at 1,001
+    let mut e = gate([1_001, 1_000, 1_000], [(0, 300), (1, 20), (0, 0)], 1);
+    e[21] = 120;
+    assert_eq!(found(&e, &[9, 24, 27]), [9_509, 45_859, 40_290]);
 }
 
 #[test]
@@ -97,7 +148,8 @@ fn k7_to_k10_options() {
     let eb = |changes, k| line(&sheet(&with(k1(), changes)), 0, k);
     assert_eq!(eb(&[(21, 120)], 24), 25_264);
     assert_eq!(eb(&[(21, 121)], 24), BLANK);
-    assert_eq!(eb(&[(1, 59)], 23), 118_000);
+    assert_eq!(eb(&[(1, 59)], 5), 18_050);
+    assert_eq!(eb(&[(1, 59)], 23), 117_804);
     assert_eq!(eb(&[(1, 60)], 23), BLANK);
 }
 
@@ -196,11 +248,11 @@ fn cells(record: &[u32]) -> [u32; diamond::CELLS] {
 #[test]
 fn the_books_third_example() {
     let found = cells(&example_3());
-    assert_eq!(found[..7], [27_052, 0, 13_759, 38_664, 20_265, 39_895, 0]);
-    assert_eq!(found[7..14], [22_908, 0, 16_632, 29_211, 30_024, 0, 11_059]);
-    assert_eq!(found[14..18], [80_706, 69_564, 78_559, 59_235]);
-    assert_eq!(found[18..22], [80_706, 69_564, 7_100, 7_100]);
-    assert_eq!(found[22..], [105_679, BLANK, BLANK, 0, 105_679, 881, 4]);
+    assert_eq!(found[..7], [27_048, 0, 13_757, 38_664, 20_262, 39_878, 0]);
+    assert_eq!(found[7..14], [22_908, 0, 16_632, 29_211, 30_018, 0, 11_059]);
+    assert_eq!(found[14..18], [80_683, 69_558, 78_542, 59_229]);
+    assert_eq!(found[18..22], [80_683, 69_558, 7_100, 7_100]);
+    assert_eq!(found[22..], [105_652, BLANK, BLANK, 0, 105_652, 881, 4]);
 }
 
 #[test]
@@ -212,11 +264,11 @@ fn storages_allow_plans() {
         (found[22], found[23], found[24], found[25])
     };
     // x is 10, 6.67, 16.67 and 26.67: 14.04.., 9.97.., 21.89.. and 33.27.. vehicles
-    assert_eq!(plans([15, 10, 22, 34]), (105_679, 80_706, 80_706, 1));
-    assert_eq!(plans([14, 10, 22, 34]), (105_679, BLANK, 80_706, 2));
-    assert_eq!(plans([15, 9, 22, 34]), (105_679, BLANK, 80_706, 2));
-    assert_eq!(plans([15, 10, 21, 34]), (105_679, BLANK, BLANK, 0));
-    assert_eq!(plans([15, 10, 22, 33]), (105_679, BLANK, BLANK, 0));
+    assert_eq!(plans([15, 10, 22, 34]), (105_652, 80_683, 80_683, 1));
+    assert_eq!(plans([14, 10, 22, 34]), (105_652, BLANK, 80_683, 2));
+    assert_eq!(plans([15, 9, 22, 34]), (105_652, BLANK, 80_683, 2));
+    assert_eq!(plans([15, 10, 21, 34]), (105_652, BLANK, BLANK, 0));
+    assert_eq!(plans([15, 10, 22, 33]), (105_652, BLANK, BLANK, 0));
 }
 
 #[test]

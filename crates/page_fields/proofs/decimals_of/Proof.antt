@@ -2,12 +2,17 @@ use borrow.Author.Tests.{ne-eqb}
 use Rattle.page_fields.proofs.decimals_of.Statement.{statement}
 use Rattle.page_fields.proofs.decimals_of.Tie as tie
 
-returns-4 : tie.Need-returns-4
-returns-4 c =
+returns-5 : tie.Need-returns-5
+returns-5 c =
     let rest = c .match .rest in
-    simp (ne-eqb _ _ (rest .0 .0 .1), ne-eqb _ _ (rest .0 .1), ne-eqb _ _ (rest .1))
+    simp (ne-eqb _ _ (rest .0 .0 .0 .1), ne-eqb _ _ (rest .0 .0 .1), ne-eqb _ _ (rest .0 .1), ne-eqb _ _ (rest .1))
 
 pub decimals-of-spec : {M : Type 1} → statement M
 decimals-of-spec =
     tie.close
-    (tie.spec (λ c. rw (c .match .keys1)) (λ c. rw (c .match .keys2)) (λ c. rw (c .match .keys3)) returns-4)
+    (tie.spec
+    (λ c. rw (c .match .keys1))
+    (λ c. rw (c .match .keys2))
+    (λ c. rw (c .match .keys3))
+    (λ c. rw (c .match .keys4))
+    returns-5)
