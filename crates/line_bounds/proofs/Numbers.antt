@@ -2,7 +2,7 @@
 use mathlib.Core.Path.{_≡_, refl}
 use mathlib.Core.Bool.{Bool, true, false, cond}
 use Prim.Native.Nat.{ℕ, _+_, _-_, _*_, _/_, _≤_, _<_}
-use native.Mathlib.Nat.{mul-comm, div-le-of-le-mul, le-div-iff-mul-le, le-mul-of-pos-right, div-add-mod', mod-lt}
+use native.Mathlib.Nat.{mul-comm, div-le-of-le-mul, le-div-iff-mul-le, le-mul-of-pos-right}
 use native.Mathlib.Omega.{arith}
 use lib.Dec.{eqb}
 use borrow.Author.Tests.{eqb-false}
@@ -22,14 +22,10 @@ quotient-between low high x d p h =
       most = div-le-of-le-mul d (omega (arith, h .most, mul-comm d high));
     }
 
--- rounding up makes at least 1 of what is not nothing, covers it, and lets nothing grow that is shared out
+-- rounding up makes at least 1 of what is not nothing, and lets nothing grow that is shared out
 pub up-least : (a b : ℕ) → 0 < a → 0 < b → 1 ≤ up a b
 unfolding up
 up-least a b h k = le-div-iff-mul-le {k = b} {x = 1} {y = a + (b - 1)} k .1 (omega arith)
-
-pub up-covers : (a b : ℕ) → 0 < b → a ≤ up a b * b
-unfolding up
-up-covers a b h = omega (arith, div-add-mod' (a + (b - 1)) b, mod-lt (a + (b - 1)) h)
 
 pub shared-out : (a n : ℕ) → 0 < n → up a n ≤ a
 shared-out a n h = up-most a a n (le-mul-of-pos-right a h)

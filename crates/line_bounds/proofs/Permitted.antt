@@ -10,6 +10,7 @@ use borrow.Author.Tests.{eqb-true, eqb-false, ne-eqb}
 use Rattle.units.specs.Rounding.{up}
 use Rattle.units.proofs.Laws.{up-most}
 use Rattle.units.specs.Unit.{flowUnit, whole}
+use Rattle.units.proofs.Laws.{up-covers}
 use Rattle.layout.specs.Sheet.{BLANK}
 use Rattle.kinds.specs.declared.Kind.the-variants.{Lanes, Cycle}
 use Rattle.kinds.specs.declared.Group.the-variants.{Left, Through}
@@ -22,7 +23,7 @@ use Rattle.procedure.specs.Lines.{sSL, interference, time, weighted, nobodyDriv
 use Rattle.procedure.specs.Lines.{allowedA, allowedB, empty, line23, line24, line25, line26, sB, waiting, throughB, optionB, lesser}
 use Rattle.line_bounds.specs.Bounds.{mostVolume, leastStraight, mostServed, mostHeld}
 use Rattle.line_bounds.specs.Bounds.{mostMixedServed, mostAdded, mostOption, mostPermitted, Timely}
-use Rattle.line_bounds.proofs.Numbers.{up-covers, shared-out, part-most}
+use Rattle.line_bounds.proofs.Numbers.{shared-out, part-most}
 use Rattle.line_bounds.proofs.Flows.{volumes, turning-between, straight-between, straight-alike, group-serving}
 use Rattle.line_bounds.proofs.Times.{time-most, passes-most, straight-passes, lefts-pass, interference-most, weighed-added, nobody-most}
 use Rattle.line_bounds.proofs.LeftLane.{carries, carried, share-within}

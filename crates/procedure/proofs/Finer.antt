@@ -8,7 +8,7 @@ use native.Mathlib.Omega.{arith}
 use lib.Dec.{eqb}
 use Rattle.units.specs.Rounding.{up}
 use Rattle.units.specs.Unit.{flowUnit, whole}
-use Rattle.units.proofs.Laws.{up-most, up-least}
+use Rattle.units.proofs.Laws.{up-most, up-covers}
 use Rattle.kinds.specs.declared.Group.{Group}
 use Rattle.line_factors.specs.Factors.{laneFactor}
 use Rattle.procedure.specs.Lines.{flowOf, flowA, time}
@@ -41,4 +41,4 @@ pub no-longer : (v CL flow before : ℕ) → 0 < before → flowUnit * before �
 unfolding time
 no-longer v CL flow before some finer =
     let then = up (1000 * v * CL) before in
-    up-most then (1000 * flowUnit * v * CL) flow (omega (arith, up-least (1000 * v * CL) before some, mul-le-mul-left then finer))
+    up-most then (1000 * flowUnit * v * CL) flow (omega (arith, up-covers (1000 * v * CL) before some, mul-le-mul-left then finer))

@@ -12,7 +12,7 @@ up-most q a (suc b) h =
     le-of-suc-le-suc
     (div-lt-iff-lt-mul {k = suc b} {x = a + (suc b - 1)} {y = suc q} (omega arith) .1 (omega (arith, suc-mul q (suc b))))
 
--- and what was divided is at most that many times the divisor
-pub up-least : (a b : ℕ) → 0 < b → a ≤ up a b * b
+-- and that many times the divisor covers what was divided
+pub up-covers : (a b : ℕ) → 0 < b → a ≤ up a b * b
 unfolding up
-up-least a b h = omega (arith, div-add-mod' (a + (b - 1)) b, mod-lt (a + (b - 1)) h)
+up-covers a b h = omega (arith, div-add-mod' (a + (b - 1)) b, mod-lt (a + (b - 1)) h)
