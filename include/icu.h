@@ -5,7 +5,8 @@
  *
  * All numbers are whole. Volumes and the ideal flow of a lane, which are entries, are vehicles per hour;
  * the flows that the lines give are tenths of a vehicle per hour (18050 is 1,805.0 an hour); times are
- * milliseconds, the cycle seconds, factors and shares ten-thousandths, the ICU tenths of a percent.
+ * milliseconds, the cycle seconds, the ICU tenths of a percent. A measured lane factor, which is an entry,
+ * is thousandths (971 is 0.971); the factors and shares that the lines give are ten-thousandths.
  *
  * A list passes as a pointer and the number of its elements. Lists are lent for the call only;
  * nothing is kept afterwards. A pointer may be null where its length is 0, and nowhere else; lists
@@ -34,10 +35,14 @@ extern "C" {
  * icu_open_amend, icu_open_read; all other calls give what they gave. 2.0: lines 5 to 9 and 22 are tenths
  * of a vehicle per hour, where they were whole ones, and the times that come from them are the finer for
  * it. Entries, and so study files, are what they were; a sheet that an earlier version filled is to be
- * filled again before it is amended, or its flows stand in two units. */
-#define ICU2003_VERSION_MAJOR 2
+ * filled again before it is amended, or its flows stand in two units. 3.0: each movement has a sixth
+ * entry, its measured lane factor, so entries, sheets, records and open studies have other lengths and
+ * places. A sheet, a record or an open study of an earlier version is to be made anew; its study files
+ * are read. Entries without measured factors give what they gave. Study files are written in a new kind,
+ * which earlier versions refuse with ICU_FILE at 0. */
+#define ICU2003_VERSION_MAJOR 3
 #define ICU2003_VERSION_MINOR 0
-#define ICU2003_VERSION "2.0"
+#define ICU2003_VERSION "3.0"
 
 /* ------------------------------------------------------------------ answers */
 
@@ -50,55 +55,60 @@ typedef struct IcuAnswer {
 enum {
     ICU_ACCEPTED = 0,
     ICU_SIZE = 1,   /* a list of the wrong length; place 0 */
-    ICU_ENTRY = 2,  /* an amendment of an entry above 80; place 0 */
-    ICU_RANGE = 3,  /* an entry outside its range; place: the lowest such entry, 0 to 80 */
+    ICU_ENTRY = 2,  /* an amendment of an entry above 92; place 0 */
+    ICU_RANGE = 3,  /* an entry outside its range; place: the lowest such entry, 0 to 92 */
     ICU_SHARED = 4, /* a shared lane with left lanes or without through lanes;
                        place: the lowest such approach, 0 to 3 */
     ICU_NOLANE = 5, /* volume without a lane to use; place: the lowest such movement, 0 to 11 */
     ICU_FILE = 6,   /* a study file badly laid out, a site it lacks, or too little room;
                        place: see the calls */
     ICU_STORE = 7,  /* a storage of a diamond interchange outside its range; place: the lowest
-                       such, 162 to 165 */
-    ICU_TRAVEL = 8, /* its travel time outside its range; place 166 */
+                       such, 186 to 189 */
+    ICU_TRAVEL = 8, /* its travel time outside its range; place 190 */
     ICU_OWNER = 9,  /* the office has no site there, or gives its number as 0; place: the site, or
                        0 for an add */
     ICU_FULL = 10   /* an add to an open study without a free place; place 0 */
 };
 
-/* ------------------------------------------------------------------ the 81 entries */
+/* ------------------------------------------------------------------ the 93 entries */
 
-#define ICU_ENTRIES 81
+#define ICU_ENTRIES 93
 
 /* Approaches, and the turns of each; movement 3a + t is turn t of approach a. */
 enum { ICU_EB = 0, ICU_WB = 1, ICU_NB = 2, ICU_SB = 3 };
 enum { ICU_LEFT = 0, ICU_THROUGH = 1, ICU_RIGHT = 2 };
 #define ICU_MOVEMENT(approach, turn) (3 * (approach) + (turn))
 
-/* Places of movement m's entries: 5m + j. */
-#define ICU_LANES(m) (5 * (m))             /* 0 to 6 */
-#define ICU_VOLUME(m) (5 * (m) + 1)        /* 0 to 9,999 vehicles per hour */
-#define ICU_IDEAL_FLOW(m) (5 * (m) + 2)    /* 1,000 to 2,400 vehicles per hour, usually 1,900 */
-#define ICU_LOST_TIME(m) (5 * (m) + 3)     /* 0 to 20,000 ms */
-#define ICU_MINIMUM_GREEN(m) (5 * (m) + 4) /* 0 to 60,000 ms */
+/* Places of movement m's entries: 6m + j. */
+#define ICU_LANES(m) (6 * (m))             /* 0 to 6 */
+#define ICU_VOLUME(m) (6 * (m) + 1)        /* 0 to 9,999 vehicles per hour */
+#define ICU_IDEAL_FLOW(m) (6 * (m) + 2)    /* 1,000 to 2,400 vehicles per hour, usually 1,900 */
+#define ICU_LOST_TIME(m) (6 * (m) + 3)     /* 0 to 20,000 ms */
+#define ICU_MINIMUM_GREEN(m) (6 * (m) + 4) /* 0 to 60,000 ms */
+#define ICU_LANE_FACTOR(m) (6 * (m) + 5)   /* 500 to 1,000 thousandths as measured, usually 0 */
 
-/* Places of approach a's entries: 60 + 5a + j. */
-#define ICU_SHARED_LANE(a) (60 + 5 * (a))     /* 1: a through lane is shared with the lefts */
-#define ICU_PEDESTRIANS(a) (60 + 5 * (a) + 1) /* 0 to 2,000 per hour */
-#define ICU_PUSH_BUTTON(a) (60 + 5 * (a) + 2) /* 1: pedestrians have a button */
-#define ICU_PEDESTRIAN_TIME(a) (60 + 5 * (a) + 3) /* 0 to 60,000 ms */
+/* A lane factor of 0 stands for the table's. A measured one takes its place in lines 5 to 9, for any
+ * number of lanes, one included; line 9 of a shared lane takes the left movement's. */
+#define ICU_TABLE_FACTOR 0
+
+/* Places of approach a's entries: 72 + 5a + j. */
+#define ICU_SHARED_LANE(a) (72 + 5 * (a))     /* 1: a through lane is shared with the lefts */
+#define ICU_PEDESTRIANS(a) (72 + 5 * (a) + 1) /* 0 to 2,000 per hour */
+#define ICU_PUSH_BUTTON(a) (72 + 5 * (a) + 2) /* 1: pedestrians have a button */
+#define ICU_PEDESTRIAN_TIME(a) (72 + 5 * (a) + 3) /* 0 to 60,000 ms */
 #define ICU_WALK_TIME(a) ICU_PEDESTRIAN_TIME(a)   /* its older name */
-#define ICU_FREE_RIGHT(a) (60 + 5 * (a) + 4)  /* 1: rights do not wait for a phase */
+#define ICU_FREE_RIGHT(a) (72 + 5 * (a) + 4)  /* 1: rights do not wait for a phase */
 
-#define ICU_CYCLE 80 /* 30 to 240 s */
+#define ICU_CYCLE 92 /* 30 to 240 s */
 
 /* Every entry is present and in range, also of a movement without lanes. */
 
-/* ------------------------------------------------------------------ the 209 cells of a sheet */
+/* ------------------------------------------------------------------ the 221 cells of a sheet */
 
-#define ICU_CELLS 209
+#define ICU_CELLS 221
 
-/* Cells 0 to 80 are the entries. Then the 28 lines of each approach, k from 1. */
-#define ICU_LINE(a, k) (81 + 28 * (a) + ((k) - 1))
+/* Cells 0 to 92 are the entries. Then the 28 lines of each approach, k from 1. */
+#define ICU_LINE(a, k) (93 + 28 * (a) + ((k) - 1))
 
 /* The lines by name, for ICU_LINE, and their units. */
 enum {
@@ -136,17 +146,17 @@ enum {
 #define ICU_FLOW_UNIT 10
 
 /* Four cells of each pair of approaches: totals in ms, and the index of the least. */
-#define ICU_PAIR_EB_WB 193
-#define ICU_PAIR_NB_SB 197
+#define ICU_PAIR_EB_WB 205
+#define ICU_PAIR_NB_SB 209
 enum { ICU_PROTECTED = 0, ICU_PERMITTED = 1, ICU_SPLIT = 2, ICU_PICKED = 3 };
 /* For instance sheet[ICU_PAIR_NB_SB + ICU_PICKED] is 0, 1 or 2: the phasing picked. */
 
 /* The last eight cells. */
-#define ICU_RIGHT_TOTAL(a) (201 + (a)) /* ms, by approach */
-#define ICU_COMBINED 205               /* the two picked totals added, ms */
-#define ICU_REQUIRED 206               /* the largest of combined and the right totals, ms */
-#define ICU_ICU 207                    /* tenths of a percent */
-#define ICU_LETTER 208                 /* 0 for A to 7 for H */
+#define ICU_RIGHT_TOTAL(a) (213 + (a)) /* ms, by approach */
+#define ICU_COMBINED 217               /* the two picked totals added, ms */
+#define ICU_REQUIRED 218               /* the largest of combined and the right totals, ms */
+#define ICU_ICU 219                    /* tenths of a percent */
+#define ICU_LETTER 220                 /* 0 for A to 7 for H */
 
 /* "Not allowed": in lines 23 to 26, and in the protected and permitted totals. */
 #define ICU_BLANK UINT32_C(4294967295)
@@ -154,8 +164,8 @@ enum { ICU_PROTECTED = 0, ICU_PERMITTED = 1, ICU_SPLIT = 2, ICU_PICKED = 3 };
 /* ------------------------------------------------------------------ sheets */
 
 /*
- * Judges the entries and fills the sheet from them: all 209 cells.
- * Refuses ICU_SIZE (place 0) where entries_len is not 81 or sheet_len not 209, then ICU_RANGE,
+ * Judges the entries and fills the sheet from them: all 221 cells.
+ * Refuses ICU_SIZE (place 0) where entries_len is not 93 or sheet_len not 221, then ICU_RANGE,
  * ICU_SHARED, ICU_NOLANE. The sheet stays as it was on a refusal; the entries always do.
  */
 IcuAnswer icu_fill(const uint32_t *entries, size_t entries_len, uint32_t *sheet, size_t sheet_len);
@@ -164,7 +174,7 @@ IcuAnswer icu_fill(const uint32_t *entries, size_t entries_len, uint32_t *sheet,
  * Amends one entry of a sheet: stores the value and rewrites each cell that the entry reaches
  * with what a fresh fill of the amended entries would hold there. All other cells stay, whatever
  * they held.
- * Refuses ICU_SIZE (place 0) where len is not 209, ICU_ENTRY (place 0) where entry is above 80,
+ * Refuses ICU_SIZE (place 0) where len is not 221, ICU_ENTRY (place 0) where entry is above 92,
  * then ICU_RANGE, ICU_SHARED, ICU_NOLANE of all the entries as they would stand.
  * The sheet stays as it was on a refusal.
  */
@@ -173,20 +183,20 @@ IcuAnswer icu_amend(uint32_t *sheet, size_t len, uint32_t entry, uint32_t value)
 /* ------------------------------------------------------------------ diamond interchanges */
 
 /*
- * A record of 167 numbers: the entries of the west junction of an east-west arterial, those of the
+ * A record of 191 numbers: the entries of the west junction of an east-west arterial, those of the
  * east junction, four storages and the travel time between the two. Both junctions have the same cycle.
  */
-#define ICU_RECORD 167
-#define ICU_WEST(entry) (entry)        /* 0 to 80 */
-#define ICU_EAST(entry) (81 + (entry)) /* 81 to 161 */
+#define ICU_RECORD 191
+#define ICU_WEST(entry) (entry)        /* 0 to 92 */
+#define ICU_EAST(entry) (93 + (entry)) /* 93 to 185 */
 
 /* Vehicles that find room between the junctions, 1 to 999. */
-#define ICU_STORAGE_WB_LEFT 162   /* the west junction's WB left */
-#define ICU_STORAGE_EB_LEFT 163   /* the east junction's EB left */
-#define ICU_STORAGE_EASTBOUND 164 /* the road eastbound, for the west ramp's SB left */
-#define ICU_STORAGE_WESTBOUND 165 /* the road westbound, for the east ramp's NB left */
+#define ICU_STORAGE_WB_LEFT 186   /* the west junction's WB left */
+#define ICU_STORAGE_EB_LEFT 187   /* the east junction's EB left */
+#define ICU_STORAGE_EASTBOUND 188 /* the road eastbound, for the west ramp's SB left */
+#define ICU_STORAGE_WESTBOUND 189 /* the road westbound, for the east ramp's NB left */
 
-#define ICU_TRAVEL_TIME 166 /* 0 to 60,000 ms */
+#define ICU_TRAVEL_TIME 190 /* 0 to 60,000 ms */
 
 /* What is worked out of it: 29 cells. */
 #define ICU_DIAMOND_CELLS 29
@@ -227,10 +237,10 @@ enum { ICU_LEADING_ALTERNATE = 0, ICU_LAGGING = 1, ICU_LEAD_LAG = 2 };
 
 /*
  * Judges the record and works out the 29 cells.
- * Refuses ICU_SIZE (place 0) where record_len is not 167 or cells_len not 29; then ICU_RANGE,
+ * Refuses ICU_SIZE (place 0) where record_len is not 191 or cells_len not 29; then ICU_RANGE,
  * ICU_SHARED and ICU_NOLANE, each over both junctions, the east's places counted on from the west's:
- * entries from 81, approaches from 4, movements from 12; an east cycle that is not the west's is
- * ICU_RANGE at 161; then ICU_STORE and ICU_TRAVEL.
+ * entries from 93, approaches from 4, movements from 12; an east cycle that is not the west's is
+ * ICU_RANGE at 185; then ICU_STORE and ICU_TRAVEL.
  * The cells stay as they were on a refusal; the record always does.
  */
 IcuAnswer icu_diamond(const uint32_t *record, size_t record_len, uint32_t *cells, size_t cells_len);
@@ -238,7 +248,7 @@ IcuAnswer icu_diamond(const uint32_t *record, size_t record_len, uint32_t *cells
 /* ------------------------------------------------------------------ open studies */
 
 /*
- * An open study is two lists: the owners of its 180 places and the blocks of 81 entries that stand at
+ * An open study is two lists: the owners of its 165 places and the blocks of 93 entries that stand at
  * them. An owner is the number of an office, 0 where the place is free. Places and sites are counted
  * from 0. An office is any number but 0; there may be as many offices as places.
  *
@@ -261,14 +271,14 @@ IcuAnswer icu_diamond(const uint32_t *record, size_t record_len, uint32_t *cells
  * The office's number is what the program says it is. The calls keep numbers apart; they do not prove
  * who is calling. That is for the program to do.
  */
-#define ICU_PLACES 180
-#define ICU_BLOCKS (180 * 81) /* entry e of a site stands at 81 * site + e */
+#define ICU_PLACES 165
+#define ICU_BLOCKS (165 * 93) /* entry e of a site stands at 93 * site + e */
 
 /*
  * Adds a site of the office: the lowest free place gets the office as its owner and the entries as its
- * block, and *place that place, 0 to 179. All else stays.
- * Refuses ICU_SIZE (place 0) where owners_len is not 180, blocks_len not 180 times 81 or entries_len
- * not 81; ICU_OWNER (place 0) where office is 0; then ICU_RANGE, ICU_SHARED and ICU_NOLANE of the
+ * block, and *place that place, 0 to 164. All else stays.
+ * Refuses ICU_SIZE (place 0) where owners_len is not 165, blocks_len not 165 times 93 or entries_len
+ * not 93; ICU_OWNER (place 0) where office is 0; then ICU_RANGE, ICU_SHARED and ICU_NOLANE of the
  * entries; then ICU_FULL (place 0) where no place is free.
  * Owners, blocks and *place stay as they were on a refusal; the entries always do.
  */
@@ -278,9 +288,9 @@ IcuAnswer icu_open_add(uint32_t *owners, size_t owners_len, uint32_t *blocks, si
 
 /*
  * Amends one entry of a site of the office's own: that one number of its block. No sheet is worked out.
- * Refuses ICU_SIZE (place 0) where owners_len is not 180 or blocks_len not 180 times 81; ICU_ENTRY
- * (place 0) where entry is above 80; ICU_OWNER (place: the site as asked for, whatever number it is)
- * where office is 0 and where the place is above 179, free or another's; then ICU_RANGE, ICU_SHARED and
+ * Refuses ICU_SIZE (place 0) where owners_len is not 165 or blocks_len not 165 times 93; ICU_ENTRY
+ * (place 0) where entry is above 92; ICU_OWNER (place: the site as asked for, whatever number it is)
+ * where office is 0 and where the place is above 164, free or another's; then ICU_RANGE, ICU_SHARED and
  * ICU_NOLANE of the block's entries as they would stand, with places within the block.
  * The blocks stay as they were on a refusal; the owners always do.
  */
@@ -289,9 +299,9 @@ IcuAnswer icu_open_amend(const uint32_t *owners, size_t owners_len, uint32_t *bl
                          uint32_t value);
 
 /*
- * Reads a site of the office's own: fills the sheet from its block, all 209 cells.
- * Refuses ICU_SIZE (place 0) where owners_len is not 180, blocks_len not 180 times 81 or sheet_len not
- * 209; ICU_OWNER as icu_open_amend does; then ICU_RANGE, ICU_SHARED and ICU_NOLANE of the block, with
+ * Reads a site of the office's own: fills the sheet from its block, all 221 cells.
+ * Refuses ICU_SIZE (place 0) where owners_len is not 165, blocks_len not 165 times 93 or sheet_len not
+ * 221; ICU_OWNER as icu_open_amend does; then ICU_RANGE, ICU_SHARED and ICU_NOLANE of the block, with
  * places within it.
  * The sheet stays as it was on a refusal; owners and blocks always do.
  */
@@ -302,18 +312,27 @@ IcuAnswer icu_open_read(const uint32_t *owners, size_t owners_len, const uint32_
 /* ------------------------------------------------------------------ study files */
 
 /*
- * A study file has the bytes "ICUS", the number of sites k (0 to 180), k offsets, and k blocks of
- * 81 entries, all as 32-bit numbers, low byte first. The calls below do not judge entries by
+ * A study file has the bytes "ICUT", the number of sites k (0 to 165), k offsets, and k blocks of
+ * 93 entries, all as 32-bit numbers, low byte first. The calls below do not judge entries by
  * ICU_RANGE to ICU_NOLANE: a block with bad entries is well laid out.
+ *
+ * A study file of before version 3.0 has the bytes "ICUS", up to 180 sites, and blocks of 81 entries:
+ * those of today without the lane factors. It is read, each lane factor being 0 then, and not written;
+ * a place that is told of one of its sites is that of the entry among the 93.
  */
-#define ICU_SITES 180
-#define ICU_FILE_BYTES(k) (8 + 328 * (k))
+#define ICU_SITES 165
+#define ICU_FILE_BYTES(k) (8 + 376 * (k))
+#define ICU_SITES_BEFORE 180
+#define ICU_FILE_BYTES_BEFORE(k) (8 + 328 * (k))
 
-/* Room enough for any listing. */
+/* The longest file that is read, of either kind. */
+#define ICU_MOST_FILE_BYTES 62048
+
+/* Room enough for any listing, of either kind: at most 180 lines. */
 #define ICU_LIST_BYTES 6120
 
 /*
- * Says whether the file is well laid out.
+ * Says whether the file is well laid out, as either kind by its first four bytes.
  * Refuses ICU_FILE: place of the first byte of the first wrong field (opening 0, count 4, offsets
  * in order), or len where the file is short, a field cut short included, or the first byte too many.
  */
@@ -323,8 +342,8 @@ IcuAnswer icu_study_check(const uint8_t *file, size_t len);
 uint32_t icu_study_count(const uint8_t *file, size_t len);
 
 /*
- * Copies the entries of one site, counted from 0, into a list of 81 numbers.
- * Refuses ICU_SIZE (place 0) where entries_len is not 81; then ICU_FILE with the place that
+ * Copies the entries of one site, counted from 0, into a list of 93 numbers, of a file of either kind.
+ * Refuses ICU_SIZE (place 0) where entries_len is not 93; then ICU_FILE with the place that
  * icu_study_check gives, or place 4 where a good file lacks the site.
  * The list stays as it was on a refusal.
  */
@@ -332,10 +351,10 @@ IcuAnswer icu_study_site(const uint8_t *file, size_t len, uint32_t site, uint32_
                          size_t entries_len);
 
 /*
- * Writes a study file of len / 81 sites at the front of out: ICU_FILE_BYTES(len / 81) bytes. The
- * bytes after it stay.
- * Refuses ICU_SIZE (place 0) where len is not a multiple of 81; then ICU_FILE, place 0 for more
- * than 180 sites, place 4 where out is too short. All of out stays as it was on a refusal.
+ * Writes a study file, an "ICUT", of len / 93 sites at the front of out: ICU_FILE_BYTES(len / 93) bytes.
+ * The bytes after it stay.
+ * Refuses ICU_SIZE (place 0) where len is not a multiple of 93; then ICU_FILE, place 0 for more
+ * than 165 sites, place 4 where out is too short. All of out stays as it was on a refusal.
  */
 IcuAnswer icu_study_write(const uint32_t *entries, size_t len, uint8_t *out, size_t out_len);
 
@@ -343,7 +362,7 @@ IcuAnswer icu_study_write(const uint32_t *entries, size_t len, uint8_t *out, siz
  * Puts the listing of the file at the front of out and its length in bytes into *length. There
  * is one line for each site: its number from 1, the ICU, the letter and both picked phasings as P
  * (protected), M (permitted) or S (split), such as "1 666 C PP"; or, for a refused site, its
- * number, R and the refusal's number, and the place, such as "2 R3 80". Each line ends with a
+ * number, R and the refusal's number, and the place, such as "2 R3 92". Each line ends with a
  * line feed; no zero byte follows. A bad file is accepted too: its listing is the one line
  * "file R6" and the place. The bytes after the listing stay.
  * Refuses ICU_FILE, place 4, where out is shorter than the listing; out and *length then stay as

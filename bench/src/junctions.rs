@@ -2,7 +2,10 @@
 
 use compare::diamond::{self, Record, EAST, STORAGES};
 use compare::generate::{Entries, Rng};
-use compare::rules::{self, ACCEPTED, CELLS, CYCLE, ENTRIES};
+use compare::rules::{
+    self, approach_entry, movement_entry, ACCEPTED, BY_TABLE, CELLS, CYCLE, ENTRIES, MOVEMENT,
+    OLD_ENTRIES,
+};
 
 pub type Sheet = [u32; CELLS];
 
@@ -18,7 +21,8 @@ const SHAPES: [[u32; 4]; 8] = [
     [0, 0, 0, 0],
 ];
 
-fn approach(rng: &mut Rng, e: &mut Entries, a: usize, walkers: bool) {
+/// Of an approach, with or without pedestrians, at a junction whose lanes were each counted or were not.
+fn approach(rng: &mut Rng, e: &mut Entries, a: usize, (walkers, counted): (bool, bool)) {
     // An empty leg is rarer than any other shape.
     let last = if rng.once_in(3) { 8 } else { 7 };
     let lanes = SHAPES[rng.below(last)];
@@ -30,26 +34,27 @@ fn approach(rng: &mut Rng, e: &mut Entries, a: usize, walkers: bool) {
     ];
     for turn in 0..3 {
         let volume = volumes[turn] * u32::from(turn > 0 || lanes[0] + lanes[3] > 0);
-        let entries = [
-            lanes[turn],
-            volume,
-            rng.pick(&[1_900, 1_900, 1_850]),
-            4_000,
-            4_000,
-        ];
-        e[15 * a + 5 * turn..][..5].copy_from_slice(&entries);
+        let ideal = rng.pick(&[1_900, 1_900, 1_850]);
+        let factor = if counted {
+            rng.within(850, 1_000)
+        } else {
+            BY_TABLE
+        };
+        let entries = [lanes[turn], volume, ideal, 4_000, 4_000, factor];
+        e[movement_entry(a, turn, 0)..][..MOVEMENT].copy_from_slice(&entries);
     }
     let crossing = if walkers { rng.within(5, 250) } else { 0 };
     let button = rng.below(4).min(1) as u32;
     let free = u32::from(rng.once_in(5));
-    e[60 + 5 * a..][..5].copy_from_slice(&[lanes[3], crossing, button, 16_000, free]);
+    e[approach_entry(a, 0)..][..5].copy_from_slice(&[lanes[3], crossing, button, 16_000, free]);
 }
 
-/// An acceptable junction with or without pedestrians.
+/// An acceptable junction with or without pedestrians. At one in four somebody counted each lane.
 fn junction(rng: &mut Rng, walkers: bool) -> Entries {
     let mut e = [0; ENTRIES];
+    let counted = rng.once_in(4);
     for a in 0..4 {
-        approach(rng, &mut e, a, walkers);
+        approach(rng, &mut e, a, (walkers, counted));
     }
     e[CYCLE] = rng.pick(&[60, 90, 100, 120, 120]);
     e
@@ -67,6 +72,11 @@ pub fn sheets(junctions: &[Entries]) -> Vec<Sheet> {
         rules::fill(e, sheet);
     }
     sheets
+}
+
+/// The entries of a junction as a study file of before holds them, without its lane factors.
+pub fn of_before(e: &Entries) -> [u32; OLD_ENTRIES] {
+    std::array::from_fn(|entry| e[rules::place_today(entry)])
 }
 
 /// Interchanges of the junctions, two by two, with the cycle of the first.

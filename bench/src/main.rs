@@ -9,11 +9,11 @@ mod steps;
 mod timing;
 
 use compare::diamond::{self, Record};
-use compare::generate::{laid_out, Entries, Rng};
-use compare::rules::{self, Answer, CELLS, SITES};
+use compare::generate::{laid_out, laid_out_before, Entries, Rng};
+use compare::rules::{self, Answer, CELLS, OLD_SITES, SITES};
 use junctions::Sheet;
 use std::hint::black_box;
-use steps::{Step, KINDS};
+use steps::{Step, NAMES};
 use timing::{Times, Work};
 
 type Fill = fn(&[u32], &mut [u32]) -> Answer;
@@ -102,12 +102,24 @@ fn listing(call: List, file: &[u8]) -> Work<'_> {
     })
 }
 
-fn time_list(name: &str, mix: &[Entries], rounds: usize) {
-    let file = laid_out(&mix[..SITES].concat());
-    let library = LIST.map(|call| listing(call, &file));
+fn time_list(name: &str, file: &[u8], rounds: usize) {
+    let library = LIST.map(|call| listing(call, file));
     row(
         name,
-        timing::both(library, listing(rules::study_list, &file), 1, rounds),
+        timing::both(library, listing(rules::study_list, file), 1, rounds),
+    );
+}
+
+/// As many sites as a study file holds, and as many as one of before.
+fn time_lists(mix: &[Entries], rounds: usize) {
+    let file = laid_out(&mix[..SITES].concat());
+    time_list(&format!("list of {SITES} sites"), &file, rounds);
+    let blocks: Vec<_> = mix[..OLD_SITES].iter().map(junctions::of_before).collect();
+    let file = laid_out_before(&blocks.concat());
+    time_list(
+        &format!("list of {OLD_SITES} sites of before"),
+        &file,
+        rounds,
     );
 }
 
@@ -172,13 +184,13 @@ fn main() {
     time_fill("fill, no pedestrians", &quiet, rounds);
     time_fill("fill, pedestrians", &walked, rounds);
     time_fill("fill, mix", &mix, rounds);
-    for (kind, name) in KINDS.iter().enumerate() {
+    for (kind, name) in NAMES.iter().enumerate() {
         let steps = steps::of_kind(&mut rng, &mix, kind);
         time_amend(&format!("amend {name}"), &mix, &steps, rounds);
     }
     let steps = steps::of_all_kinds(&mut rng, &mix);
     time_amend("amend, mix of all kinds", &mix, &steps, rounds);
-    time_list("list of 180 sites", &mix, rounds);
+    time_lists(&mix, rounds);
     for (name, mix) in [
         ("diamond, no pedestrians", &quiet),
         ("diamond, pedestrians", &walked),

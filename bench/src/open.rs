@@ -1,11 +1,11 @@
-//! An open study: 180 adds one after the other, amendments in the block, and reads.
+//! An open study: 165 adds one after the other, amendments in the block, and reads.
 
 use crate::steps::{self, Step};
 use crate::timing::{self, Work};
 use crate::{filling, row, FILL};
 use compare::generate::{Entries, Rng};
 use compare::open::{Calls, BLOCKS, FREE, PLACES, RULES};
-use compare::rules::{self, ACCEPTED, CELLS, NOLANE};
+use compare::rules::{self, approach_entry, movement_entry, ACCEPTED, CELLS, NOLANE};
 use std::hint::black_box;
 
 const OPEN: Option<Calls> = {
@@ -100,10 +100,10 @@ fn refused_last(junctions: &[Entries]) -> Vec<Entries> {
     let refused = |e: &Entries| {
         let mut e = *e;
         for (turn, volume) in [0, 0, 1].into_iter().enumerate() {
-            e[45 + 5 * turn] = 0;
-            e[45 + 5 * turn + 1] = volume;
+            e[movement_entry(3, turn, 0)] = 0;
+            e[movement_entry(3, turn, 1)] = volume;
         }
-        e[75] = 0;
+        e[approach_entry(3, 0)] = 0;
         let answer = rules::judge(&e);
         assert_eq!((answer.number, answer.place), (NOLANE, 11));
         e
@@ -131,7 +131,7 @@ fn time_amend_in_fills(junctions: &[Entries], steps: &[Step], rounds: usize) {
     );
 }
 
-/// Times the three calls on a study of the first 180 junctions.
+/// Times the three calls on a study of as many junctions as it has places.
 pub fn time(rng: &mut Rng, mix: &[Entries], rounds: usize) {
     let junctions = &mix[..PLACES];
     let steps = steps::of_all_kinds(rng, junctions);
@@ -141,7 +141,7 @@ pub fn time(rng: &mut Rng, mix: &[Entries], rounds: usize) {
     let (mut theirs, mut ours) = (Study::of(junctions), Study::of(junctions));
     let library = OPEN.map(|calls| adding(calls, junctions));
     row(
-        "open add, 180 in turn",
+        &format!("open add, {PLACES} in turn"),
         timing::both(library, adding(RULES, junctions), PLACES, rounds),
     );
     let library = OPEN.map(|calls| amending(calls, &mut theirs, &steps));

@@ -2,14 +2,16 @@
 
 use crate::junctions::Sheet;
 use compare::generate::{usual, Entries, Rng};
-use compare::rules::{judge, kind_of, ACCEPTED, ENTRIES};
+use compare::rules::{judge, kind_of, ACCEPTED, ENTRIES, KINDS};
 
-pub const KINDS: [&str; 11] = [
+/// The kinds of entries in their order.
+pub const NAMES: [&str; KINDS] = [
     "lanes",
     "volume",
     "ideal flow",
     "lost time",
     "minimum green",
+    "lane factor",
     "shared lane",
     "pedestrians",
     "push button",
@@ -65,7 +67,7 @@ pub fn of_kind(rng: &mut Rng, junctions: &[Entries], kind: usize) -> Vec<Step> {
 pub fn of_all_kinds(rng: &mut Rng, junctions: &[Entries]) -> Vec<Step> {
     let (mut there, mut back) = (Vec::new(), Vec::new());
     for (sheet, e) in junctions.iter().enumerate() {
-        let kind = rng.below(KINDS.len());
+        let kind = rng.below(KINDS);
         if let Some((entry, value)) = change(rng, e, kind) {
             there.push(Step {
                 sheet,

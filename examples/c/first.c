@@ -26,6 +26,7 @@ static void enter(uint32_t entries[ICU_ENTRIES])
             entries[ICU_IDEAL_FLOW(m)] = 1900;
             entries[ICU_LOST_TIME(m)] = 4000;
             entries[ICU_MINIMUM_GREEN(m)] = 4000;
+            entries[ICU_LANE_FACTOR(m)] = ICU_TABLE_FACTOR; /* nobody counted each lane */
         }
         entries[ICU_SHARED_LANE(a)] = 0;
         entries[ICU_PEDESTRIANS(a)] = 0;

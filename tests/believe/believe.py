@@ -41,6 +41,7 @@ PUBLIC = {
     "program_amend": ["takes", "new_place", "run"],
     "program_study": ["job_of", "texts_in", "tell", "show"],
     "program_make": ["add", "make"],
+    "program_convert": ["run"],
     "program_list": ["takes", "is_named", "run"],
     "program_target": ["judge"],
     "program_diamond": ["takes", "run"],

@@ -1,6 +1,6 @@
 /*
- * The edges of the interface: null with length 0 for every list, the names of the lines and of an interchange's numbers, and
- * two offices' first steps in an open study.
+ * The edges of the interface: null with length 0 for every list, the names of the lines and of an interchange's numbers, lane
+ * factors as measured and by the table, study files of both kinds, and two offices' first steps in an open study.
  * Prints nothing and ends with 0 where all is as the header says.
  */
 #include <stdio.h>
@@ -78,13 +78,14 @@ static void refused_at(uint32_t record[ICU_RECORD], int place, uint32_t number, 
 
 static void diamond_refusals(uint32_t record[ICU_RECORD])
 {
-    refused_at(record, ICU_WEST(ICU_CYCLE), 29, (IcuAnswer){ICU_RANGE, 80});
-    refused_at(record, ICU_EAST(ICU_CYCLE), 121, (IcuAnswer){ICU_RANGE, 161});
+    refused_at(record, ICU_WEST(ICU_CYCLE), 29, (IcuAnswer){ICU_RANGE, 92});
+    refused_at(record, ICU_EAST(ICU_LANE_FACTOR(0)), 499, (IcuAnswer){ICU_RANGE, 98});
+    refused_at(record, ICU_EAST(ICU_CYCLE), 121, (IcuAnswer){ICU_RANGE, 185});
     refused_at(record, ICU_EAST(ICU_SHARED_LANE(ICU_NB)), 1, (IcuAnswer){ICU_SHARED, 6});
     refused_at(record, ICU_EAST(ICU_LANES(ICU_MOVEMENT(ICU_SB, ICU_THROUGH))), 0, (IcuAnswer){ICU_NOLANE, 22});
-    refused_at(record, ICU_STORAGE_EB_LEFT, 1000, (IcuAnswer){ICU_STORE, 163});
-    refused_at(record, ICU_STORAGE_WESTBOUND, 0, (IcuAnswer){ICU_STORE, 165});
-    refused_at(record, ICU_TRAVEL_TIME, 60001, (IcuAnswer){ICU_TRAVEL, 166});
+    refused_at(record, ICU_STORAGE_EB_LEFT, 1000, (IcuAnswer){ICU_STORE, 187});
+    refused_at(record, ICU_STORAGE_WESTBOUND, 0, (IcuAnswer){ICU_STORE, 189});
+    refused_at(record, ICU_TRAVEL_TIME, 60001, (IcuAnswer){ICU_TRAVEL, 190});
 }
 
 static void diamond_cells(uint32_t record[ICU_RECORD], uint32_t cells[ICU_DIAMOND_CELLS])
@@ -195,12 +196,13 @@ static void open_refusals(Open *o)
 
     o->place = 7;
     expect("add, no office", add(o, 0), ICU_OWNER, 0);
-    expect("amend, entry 81 of another's", amend(o, COUNTY, 0, ICU_ENTRIES, 0), ICU_ENTRY, 0);
+    expect("amend, entry 93 of another's", amend(o, COUNTY, 0, ICU_ENTRIES, 0), ICU_ENTRY, 0);
     expect("amend, a free place", amend(o, CITY, 2, cycle, 29), ICU_OWNER, 2);
     expect("amend, no office", amend(o, 0, 2, cycle, 120), ICU_OWNER, 2);
     expect("amend, no such place", amend(o, CITY, ICU_PLACES, cycle, 120), ICU_OWNER, ICU_PLACES);
     expect("read, no such place", read_site(o, CITY, UINT32_MAX), ICU_OWNER, UINT32_MAX);
     expect("amend, range", amend(o, COUNTY, 1, cycle, 29), ICU_RANGE, ICU_CYCLE);
+    expect("amend, a lane factor", amend(o, COUNTY, 1, ICU_LANE_FACTOR(7), 1001), ICU_RANGE, ICU_LANE_FACTOR(7));
     expect("amend, shared", amend(o, COUNTY, 1, ICU_SHARED_LANE(ICU_NB), 1), ICU_SHARED, ICU_NB);
     expect("amend, no lane", amend(o, COUNTY, 1, ICU_LANES(4), 0), ICU_NOLANE, 4);
     o->blocks[ICU_ENTRIES + ICU_CYCLE] = 29;
@@ -223,6 +225,132 @@ static void open_study(void)
     open_sizes(&study);
     two_offices(&study);
     open_refusals(&study);
+}
+
+/* The left lane of K1's sheet, by the table and as measured; in the end the sheet is again what it was. */
+static void lane_factors(uint32_t sheet[ICU_CELLS])
+{
+    static const uint32_t bad[] = {1, 499, 1001, UINT32_MAX};
+    const uint32_t factor = ICU_LANE_FACTOR(ICU_MOVEMENT(ICU_EB, ICU_LEFT)), flow = ICU_LINE(ICU_EB, ICU_LEFT_FLOW);
+    uint32_t filled[ICU_CELLS];
+
+    memcpy(filled, sheet, sizeof filled);
+    expect_cell("left flow, the table's", sheet[flow], 18050);
+    expect("amend, measured", icu_amend(sheet, ICU_CELLS, factor, 900), ICU_ACCEPTED, 0);
+    expect_cell("left flow, measured", sheet[flow], 16245);
+    expect_cell("left lane flow, measured", sheet[ICU_LINE(ICU_EB, ICU_LEFT_LANE_FLOW)], 16245);
+    for (size_t i = 0; i < sizeof bad / sizeof *bad; i++)
+        expect("amend, no lane factor", icu_amend(sheet, ICU_CELLS, factor, bad[i]), ICU_RANGE, factor);
+    expect_cell("left flow after refusals", sheet[flow], 16245);
+    expect("amend, half", icu_amend(sheet, ICU_CELLS, factor, 500), ICU_ACCEPTED, 0);
+    expect_cell("left flow, half", sheet[flow], 9025);
+    expect("amend, whole", icu_amend(sheet, ICU_CELLS, factor, 1000), ICU_ACCEPTED, 0);
+    expect_cell("left flow, whole", sheet[flow], 18050);
+    expect("amend, by the table", icu_amend(sheet, ICU_CELLS, factor, ICU_TABLE_FACTOR), ICU_ACCEPTED, 0);
+    expect_cell("sheet as it was", memcmp(sheet, filled, sizeof filled) == 0, 1);
+    expect("amend, entry 93", icu_amend(sheet, ICU_CELLS, ICU_ENTRIES, 0), ICU_ENTRY, 0);
+}
+
+/* Two through lanes, one shared with the lefts: each line takes its own movement's factor, line 9 the left's. */
+static void shared_factors(uint32_t entries[ICU_ENTRIES], uint32_t sheet[ICU_CELLS])
+{
+    enter(entries);
+    entries[ICU_LANES(ICU_LEFT)] = 0;
+    entries[ICU_LANES(ICU_THROUGH)] = 2;
+    entries[ICU_SHARED_LANE(ICU_EB)] = 1;
+    entries[ICU_LANE_FACTOR(ICU_LEFT)] = 800;
+    entries[ICU_LANE_FACTOR(ICU_THROUGH)] = 900;
+    expect("fill, shared", icu_fill(entries, ICU_ENTRIES, sheet, ICU_CELLS), ICU_ACCEPTED, 0);
+    expect_cell("left flow, no lane", sheet[ICU_LINE(ICU_EB, ICU_LEFT_FLOW)], 0);
+    expect_cell("straight flow", sheet[ICU_LINE(ICU_EB, ICU_STRAIGHT_FLOW)], 34200);
+    expect_cell("left lane flow, shared", sheet[ICU_LINE(ICU_EB, ICU_LEFT_LANE_FLOW)], 14440);
+}
+
+static void put(uint8_t *file, size_t field, uint32_t number)
+{
+    for (size_t byte = 0; byte < 4; byte++)
+        file[4 * field + byte] = (uint8_t)(number >> 8 * byte);
+}
+
+/* A study file of before of one site: its entries but the lane factors. */
+static void lay_out_before(const uint32_t entries[ICU_ENTRIES], uint8_t file[ICU_FILE_BYTES_BEFORE(1)])
+{
+    size_t field = 3;
+
+    memcpy(file, "ICUS", 4);
+    put(file, 1, 1);
+    put(file, 2, 12);
+    for (uint32_t i = 0; i < ICU_ENTRIES; i++)
+        if (i >= ICU_SHARED_LANE(ICU_EB) || i % 6 != ICU_LANE_FACTOR(0))
+            put(file, field++, entries[i]);
+    expect_cell("bytes of a file of before", (uint32_t)(4 * field), ICU_FILE_BYTES_BEFORE(1));
+}
+
+static void expect_list(const uint8_t *file, size_t len, const char *due)
+{
+    uint8_t out[ICU_LIST_BYTES + 1];
+    uint32_t length = 0;
+
+    expect("list", icu_study_list(file, len, out, ICU_LIST_BYTES, &length), ICU_ACCEPTED, 0);
+    out[length] = 0;
+    if (strcmp((const char *)out, due) == 0)
+        return;
+    printf("list: %s, not %s\n", (const char *)out, due);
+    wrong = 1;
+}
+
+/* What a study of before gives: the same site with all lane factors 0, places as of today. */
+static void study_before(uint32_t entries[ICU_ENTRIES])
+{
+    uint8_t file[ICU_FILE_BYTES_BEFORE(1)];
+    uint32_t read[ICU_ENTRIES];
+
+    enter(entries);
+    entries[ICU_LANE_FACTOR(11)] = 900;
+    lay_out_before(entries, file);
+    entries[ICU_LANE_FACTOR(11)] = ICU_TABLE_FACTOR;
+    expect("check, of before", icu_study_check(file, sizeof file), ICU_ACCEPTED, 0);
+    expect_cell("count, of before", icu_study_count(file, sizeof file), 1);
+    memset(read, 7, sizeof read);
+    expect("site, 81 entries", icu_study_site(file, sizeof file, 0, read, 81), ICU_SIZE, 0);
+    expect("site, of before", icu_study_site(file, sizeof file, 0, read, ICU_ENTRIES), ICU_ACCEPTED, 0);
+    expect_cell("its entries", memcmp(read, entries, sizeof read) == 0, 1);
+    expect_list(file, sizeof file, "1 666 C PP\n");
+    entries[ICU_CYCLE] = 29;
+    lay_out_before(entries, file);
+    expect_list(file, sizeof file, "1 R3 92\n");
+    memcpy(file, "ICUT", 4);
+    expect("check, of before under the new name", icu_study_check(file, sizeof file), ICU_FILE, sizeof file);
+    memcpy(file, "ICUU", 4);
+    expect("check, any other name", icu_study_check(file, sizeof file), ICU_FILE, 0);
+}
+
+/* As many sites as a study may have, in exactly the room they take. */
+static void study_written(void)
+{
+    static uint32_t all[(ICU_SITES + 1) * ICU_ENTRIES];
+    static uint8_t file[ICU_MOST_FILE_BYTES + 1];
+    const size_t most = ICU_SITES * ICU_ENTRIES;
+    uint32_t read[ICU_ENTRIES];
+
+    for (size_t site = 0; site <= ICU_SITES; site++)
+        enter(all + site * ICU_ENTRIES);
+    all[most - ICU_ENTRIES + ICU_LANE_FACTOR(ICU_LEFT)] = 900;
+    expect_cell("bytes of most sites", ICU_FILE_BYTES(ICU_SITES), ICU_MOST_FILE_BYTES);
+    expect("write, 166 sites", icu_study_write(all, most + ICU_ENTRIES, file, sizeof file), ICU_FILE, 0);
+    expect("write, blocks of 81", icu_study_write(all, 81, file, sizeof file), ICU_SIZE, 0);
+    expect("write, a byte short", icu_study_write(all, most, file, ICU_MOST_FILE_BYTES - 1), ICU_FILE, 4);
+    expect_cell("nothing written", file[0], 0);
+    expect("write", icu_study_write(all, most, file, ICU_MOST_FILE_BYTES), ICU_ACCEPTED, 0);
+    expect_cell("opening", memcmp(file, "ICUT", 4) == 0, 1);
+    expect_cell("byte after it", file[ICU_MOST_FILE_BYTES], 0);
+    expect("check", icu_study_check(file, ICU_MOST_FILE_BYTES), ICU_ACCEPTED, 0);
+    expect_cell("count", icu_study_count(file, ICU_MOST_FILE_BYTES), ICU_SITES);
+    expect("site, the last", icu_study_site(file, ICU_MOST_FILE_BYTES, ICU_SITES - 1, read, ICU_ENTRIES), ICU_ACCEPTED, 0);
+    expect_cell("its entries", memcmp(read, all + most - ICU_ENTRIES, sizeof read) == 0, 1);
+    expect("site, none", icu_study_site(file, ICU_MOST_FILE_BYTES, ICU_SITES, read, ICU_ENTRIES), ICU_FILE, 4);
+    put(file, 1, ICU_SITES + 1);
+    expect("check, 166 sites", icu_study_check(file, ICU_MOST_FILE_BYTES), ICU_FILE, 4);
 }
 
 int main(void)
@@ -249,6 +377,10 @@ int main(void)
     expect_cell("left reference", sheet[ICU_LINE(ICU_SB, ICU_LEFT_REFERENCE)],
                 sheet[ICU_LINE(ICU_SB, ICU_LEFT_ADJUSTED)] - 4000);
     expect_cell("option B", sheet[ICU_LINE(ICU_EB, ICU_OPTION_B)], ICU_BLANK);
+    lane_factors(sheet);
+    shared_factors(entries, sheet);
+    study_before(entries);
+    study_written();
     diamond();
     open_study();
     return wrong;

@@ -13,8 +13,8 @@ sys.dont_write_bytecode = True  # leave no cache beside the sources
 
 import icu2003
 import table
-from icu2003 import EB, L, NB, R, SB, T, WB
-from junctions import approach, changed, junction
+from icu2003 import CYCLE, EAST, EB, L, NB, R, SB, STORAGES, T, TRAVEL, WB, approach_entry, movement_entry
+from junctions import EBL, EBT, FACTOR, FREE_RIGHT, IDEAL, LANES, NBR, SBT, SHARED_LANE, VOLUME, approach, changed, junction
 
 NOBODY = approach(button=0, ped_time=0)  # a leg that is not there
 
@@ -30,7 +30,7 @@ def side(number, entering, crossing, ramp, cycle=120):
 
 
 def record(west, east, storages, travel):
-    """The 167 numbers of a diamond."""
+    """The 191 numbers of a diamond."""
     return list(west) + list(east) + list(storages) + [travel]
 
 
@@ -84,17 +84,19 @@ def picks():
         ("leading alternate alone, the road westbound too short", wide((20, 20, 40, 9))),
         ("leading alternate picked, all allowed", greens(west, [0, 0, 9000, 0, 0, 0, 0], travel=500)),
         ("leading alternate ties with both", greens(entering, NONE)),
-        ("leading alternate ties with lead-lag", changed(greens(entering, [0, 0, 1, 0, 0, 0, 0], (999, 1, 999, 999), 0), {81 + 1: 400})),
+        ("leading alternate ties with lead-lag", changed(
+            greens(entering, [0, 0, 1, 0, 0, 0, 0], (999, 1, 999, 999), 0), {EAST + movement_entry(EBL, VOLUME): 400})),
         ("every time its own", greens(west, east, travel=1234)),
         ("nobody drives", greens(NONE, NONE, (1,) * 4, 60000)),
     ]
 
 
 def corners():
-    """Free rights, shared lanes, crossings with nobody driving, and the ends of the ranges."""
+    """Free rights, shared lanes, measured lane factors, crossings with nobody driving, and the ends of the ranges."""
     free = leg(left=(1, 90), through=(1, 300), right=(1, 700), free=1)
     held = leg(left=(1, 90), through=(1, 300), right=(1, 700))
     shared = leg(left=(0, 90), through=(2, 300), right=(0, 60), shared=1)
+    counted = leg(left=(1, 90), through=(1, 300), right=(1, 700), factor=(800, 700, 600))
     walked = leg(through=(1, 0), peds=60, button=1, ped_time=20000)
     full = approach((1, 9999), (1, 9999), (1, 9999), peds=2000, button=0, ideal=1000, lost=20000, minimum=60000, ped_time=60000)
     folded = approach((0, 9999), (1, 9999), (0, 9999), shared=1, peds=2000, ideal=1000, lost=20000, minimum=60000, ped_time=60000)
@@ -102,6 +104,7 @@ def corners():
     return [
         ("free rights on every leg", record(side(0, free, free, free), side(1, free, free, free), usual, 5000)),
         ("the same rights held", record(side(0, held, held, held), side(1, held, held, held), usual, 5000)),
+        ("measured lane factors on every leg", record(side(0, counted, counted, counted), side(1, counted, counted, counted), usual, 5000)),
         ("shared lanes on the arterial", record(side(0, shared, shared, held), side(1, shared, shared, held), usual, 5000)),
         ("people cross at closed legs", record(side(0, walked, held, walked), side(1, held, walked, walked), usual, 9000)),
         ("other legs change nothing", record(junction(held, held, full, held), junction(held, held, held, full), usual, 5000)),
@@ -125,27 +128,32 @@ def equal_ratio(storage):
 
 def refused():
     """Each refusal, and each before those that come after it."""
-    good = wide((20, 20, 40, 40))
-    shared_west, shared_east, no_lane_west, no_lane_east = {65: 1}, {81 + 60: 1}, {50: 0, 51: 5}, {81 + 40: 0}
-    stores, travel = {162: 0, 164: 1000}, {166: 60001}
+    good, east_cycle = wide((20, 20, 40, 40)), EAST + CYCLE
+    shared_west, shared_east = {approach_entry(WB, SHARED_LANE): 1}, {EAST + approach_entry(EB, SHARED_LANE): 1}
+    no_lane_west = {movement_entry(SBT, LANES): 0, movement_entry(SBT, VOLUME): 5}
+    no_lane_east = {EAST + movement_entry(NBR, LANES): 0}
+    stores, travel = {STORAGES: 0, STORAGES + 2: 1000}, {TRAVEL: 60001}
     lanes = {**no_lane_west, **no_lane_east}
     return [
-        ("a cycle of 29", changed(good, {80: 29})),
-        ("the east's cycle another", changed(good, {161: 121, **shared_west})),
-        ("the east's cycle another and out of range", changed(good, {161: 241})),
-        ("the east's cycle another, an entry before it out of range", changed(good, {161: 121, 83: 999, **shared_west})),
-        ("both cycles out of range", changed(good, {80: 241, 161: 241})),
-        ("an entry of each junction out of range", changed(good, {79: 2, 81: 7})),
-        ("an entry of the east out of range, all else wrong", changed(good, {81: 7, **shared_west, **lanes, **stores, **travel})),
+        ("a cycle of 29", changed(good, {CYCLE: 29})),
+        ("the east's cycle another", changed(good, {east_cycle: 121, **shared_west})),
+        ("the east's cycle another and out of range", changed(good, {east_cycle: 241})),
+        ("the east's cycle another, an entry before it out of range", changed(
+            good, {east_cycle: 121, EAST + movement_entry(EBL, IDEAL): 999, **shared_west})),
+        ("both cycles out of range", changed(good, {CYCLE: 241, east_cycle: 241})),
+        ("an entry of each junction out of range", changed(good, {approach_entry(SB, FREE_RIGHT): 2, EAST: 7})),
+        ("an entry of the east out of range, all else wrong", changed(good, {EAST: 7, **shared_west, **lanes, **stores, **travel})),
+        ("a lane factor of the east out of range", changed(good, {EAST + movement_entry(EBT, FACTOR): 499, **shared_west, **stores})),
         ("shared lanes in both junctions", changed(good, {**shared_west, **shared_east, **lanes, **stores, **travel})),
         ("a shared lane in the east", changed(good, {**shared_east, **lanes, **stores, **travel})),
         ("no lane in both junctions", changed(good, {**lanes, **stores, **travel})),
         ("no lane in the east", changed(good, {**no_lane_east, **stores, **travel})),
         ("storages out of range", changed(good, {**stores, **travel})),
-        ("the last storage out of range", changed(good, {165: 1000, **travel})),
+        ("the last storage out of range", changed(good, {TRAVEL - 1: 1000, **travel})),
         ("the travel time out of range", changed(good, travel)),
-        ("166 numbers", good[:166]),
-        ("168 numbers", good + [0]),
+        ("a number too few", good[:-1]),
+        ("a number too many", good + [0]),
+        ("the numbers of before", good[:167]),
     ]
 
 
@@ -158,22 +166,23 @@ def all_diamonds():
 
 ALL, THROUGH, RIGHT, STORE, FIRST = range(7), (0, 3, 5), (1, 6), (2, 4), (0,)
 COLUMNS = (((EB, T), (EB, R), (WB, L), (WB, T), (SB, L), (SB, T), (SB, R)), ((WB, T), (WB, R), (EB, L), (EB, T), (NB, L), (NB, T), (NB, R)))
-OWN, CELLS, VOLUMES, ROOMS, FITS = 418, 423, 452, 456, 460  # where the numbers of the page begin, past both sheets
+SHEET = icu2003.CELLS
+OWN, CELLS, VOLUMES, ROOMS, FITS = 442, 447, 476, 480, 484  # where the numbers of the page begin, past both sheets
 
 
 def by_entry(kind):
     """Where a page's number stands that is a movement's entry."""
-    return lambda number, column: 209 * number + 15 * COLUMNS[number][column][0] + 5 * COLUMNS[number][column][1] + kind
+    return lambda number, column: SHEET * number + movement_entry(3 * COLUMNS[number][column][0] + COLUMNS[number][column][1], kind)
 
 
 def by_approach(kind):
     """One that is an approach's entry."""
-    return lambda number, column: 209 * number + 60 + 5 * COLUMNS[number][column][0] + kind
+    return lambda number, column: SHEET * number + approach_entry(COLUMNS[number][column][0], kind)
 
 
 def by_line(line, grouped=True):
     """One that is a line of an approach: the one named, or those from it on for L, T and R."""
-    return lambda number, column: 209 * number + icu2003.cell(COLUMNS[number][column][0], line + (COLUMNS[number][column][1] if grouped else 0))
+    return lambda number, column: SHEET * number + icu2003.cell(COLUMNS[number][column][0], line + (COLUMNS[number][column][1] if grouped else 0))
 
 
 def by_storage(start):
@@ -189,7 +198,8 @@ SIDE_ROWS = (
     (("", "free right", "8", "n"), RIGHT, by_approach(4)), (("", "ideal flow", "9", "v"), ALL, by_entry(2)),
     (("", "storage", "10", "n"), STORE, by_storage(OWN)), (("", "lost time", "11", "s"), ALL, by_entry(3)),
     (("", "minimum green", "12", "s"), ALL, by_entry(4)), (("1", "volume combined", "16", "v"), ALL, by_line(1)),
-    (("4", "turning factor", "18", "f"), THROUGH, by_line(4, False)), (("5", "flow", "19", "V"), ALL, by_line(5)),
+    (("", "lane factor", "17", "F"), ALL, by_entry(5)), (("4", "turning factor", "18", "f"), THROUGH, by_line(4, False)),
+    (("5", "flow", "19", "V"), ALL, by_line(5)),
     (("10", "interference, right", "20", "s"), RIGHT, by_line(10, False)),
     (("11", "interference, through", "20", "s"), THROUGH, by_line(11, False)),
     (("12", "pedestrian frequency", "21", "f"), THROUGH, by_line(12, False)),
@@ -202,7 +212,7 @@ SIDE_ROWS = (
 WHOLE_ROWS = (
     (("", "isolated time 1", "28", "s"), (CELLS + 14, CELLS + 15)), (("", "isolated alternate", "29", "s"), (CELLS + 16, CELLS + 17)),
     (("", "isolated combined", "30", "s"), (CELLS + 18, CELLS + 19)), (("", "overlap", "31", "s"), (CELLS + 20, CELLS + 21)),
-    (("", "cycle, in seconds", "13", "n"), (80,)), (("", "travel time", "14", "s"), (OWN + 4,)),
+    (("", "cycle, in seconds", "13", "n"), (CYCLE,)), (("", "travel time", "14", "s"), (OWN + 4,)),
     (("", "leading alternate", "32", "s"), (CELLS + 22,)), (("", "lagging", "33", "s"), (CELLS + 23,)),
     (("", "lead-lag", "34", "s"), (CELLS + 24,)), (("", "best", "35", "s"), (CELLS + 26,)), (("", "ICU", "36", "%"), (CELLS + 27,)),
     (("", "level of service", "37", "A"), (CELLS + 28,)),
@@ -210,7 +220,7 @@ WHOLE_ROWS = (
 
 
 def page_numbers(record):
-    """The 464 numbers that a page is made of."""
+    """The 488 numbers that a page is made of."""
     west, east = icu2003.halves(record)
     volumes = [icu2003.per_cycle(record, k) for k in range(4)]
     rooms = [3600 * storage for storage in record[icu2003.STORAGES:icu2003.TRAVEL]]
@@ -248,7 +258,7 @@ def whole_text(numbers):
 
 
 def page_text(record):
-    """The 61 rows of an acceptable record."""
+    """The 63 rows of an acceptable record."""
     numbers = page_numbers(record)
     return side_text(numbers, 0) + side_text(numbers, 1) + whole_text(numbers)
 

@@ -2,16 +2,24 @@
 
 Written from the rules alone. Whole numbers only: volumes and ideal flows in vehicles per hour,
 flows that are worked out (lines 5 to 9 and 22, L's own sA, sB) in tenths of a vehicle per hour,
-factors and shares in ten-thousandths, times in milliseconds, the cycle in seconds.
+factors and shares in ten-thousandths, lane factors in thousandths, times in milliseconds, the cycle in
+seconds.
 """
 
 BLANK = 4294967295  # stands where an option is not allowed
 FLOW_UNIT = 10  # so many of a flow's units are one vehicle per hour: a flow is worked out in tenths
 
 L, T, R = 0, 1, 2  # the three groups of an approach
-OPENING = b"ICUS"
-MOST_SITES = 180
-BLOCK = 324  # bytes of one site in a study file: 81 numbers of four bytes
+
+# Where things stand: entries 0 to 92, then 28 lines of each approach, four cells of each pair, the last eight.
+ENTRIES = 93
+OWN = 72  # the first entry that is an approach's own
+CYCLE = 92
+LINES_AT = 93
+PAIRS = 205
+LAST = 213
+CELLS = 221
+OLD_ENTRIES = 81  # those of a site before lane factors were measured
 
 
 def up(n, d):
@@ -19,34 +27,58 @@ def up(n, d):
     return -(-n // d)
 
 
-# ---------------------------------------------------------------- the 81 entries
+# ---------------------------------------------------------------- the 93 entries
 
-MOVEMENT_LIMITS = ((0, 6), (0, 9999), (1000, 2400), (0, 20000), (0, 60000))
+LANE_FACTOR = 5  # which of a movement's six entries is its measured lane factor
+BY_TABLE = 0  # the measured factor of a movement whose lanes were not counted: the table's holds
+MOVEMENT_LIMITS = ((0, 6), (0, 9999), (1000, 2400), (0, 20000), (0, 60000), (500, 1000))
 APPROACH_LIMITS = ((0, 1), (0, 2000), (0, 1), (0, 60000), (0, 1))
 CYCLE_LIMITS = (30, 240)
 
 
+def movement_entry(m, kind):
+    """Where an entry of movement m stands."""
+    return 6 * m + kind
+
+
+def approach_entry(a, kind):
+    """Where an entry of approach a's own stands."""
+    return OWN + 5 * a + kind
+
+
+def is_lane_factor(entry):
+    """Whether an entry is a measured lane factor."""
+    return entry < OWN and entry % 6 == LANE_FACTOR
+
+
 def limits(entry):
-    """Least and largest value of an entry."""
-    if entry < 60:
-        return MOVEMENT_LIMITS[entry % 5]
-    if entry < 80:
-        return APPROACH_LIMITS[entry % 5]
+    """Least and largest value of an entry; of a measured lane factor, of one that is not the table's."""
+    if entry < OWN:
+        return MOVEMENT_LIMITS[entry % 6]
+    if entry < CYCLE:
+        return APPROACH_LIMITS[(entry - OWN) % 5]
     return CYCLE_LIMITS
+
+
+def in_range(entry, value):
+    """Whether an entry may have a value."""
+    least, largest = limits(entry)
+    return least <= value <= largest or is_lane_factor(entry) and value == BY_TABLE
 
 
 class Leg:
     """One approach: its entries under names, and its lines as they are worked out."""
 
     def __init__(self, entries, a):
-        groups = [entries[15 * a + 5 * g:15 * a + 5 * g + 5] for g in (L, T, R)]
+        groups = [entries[18 * a + 6 * g:18 * a + 6 * g + 6] for g in (L, T, R)]
         self.n = [group[0] for group in groups]
         self.v = [group[1] for group in groups]
         self.ideal = [group[2] for group in groups]
         self.lost = [group[3] for group in groups]
         self.minimum = [group[4] for group in groups]
-        self.shared, self.p, self.button, self.ped_time, self.free = entries[60 + 5 * a:65 + 5 * a]
-        self.cl = entries[80]
+        self.measured = [group[5] for group in groups]
+        self.shared, self.p, self.button, self.ped_time, self.free = entries[OWN + 5 * a:OWN + 5 * a + 5]
+        self.cl = entries[CYCLE]
         self.line = [None] * 29  # line k at index k
         self.oncoming = None
 
@@ -55,11 +87,7 @@ class Leg:
 
 def range_place(entries):
     """Lowest entry outside its range, or None."""
-    for entry in range(81):
-        least, largest = limits(entry)
-        if not least <= entries[entry] <= largest:
-            return entry
-    return None
+    return next((entry for entry in range(ENTRIES) if not in_range(entry, entries[entry])), None)
 
 
 def shared_place(entries):
@@ -86,7 +114,7 @@ def nolane_place(entries):
 
 def judge(entries):
     """(number, place) of the first refusal that applies, (0, 0) if there is none."""
-    if len(entries) != 81:
+    if len(entries) != ENTRIES:
         return (1, 0)
     for number, search in ((3, range_place), (4, shared_place), (5, nolane_place)):
         place = search(entries)
@@ -100,17 +128,22 @@ def judge(entries):
 LANE_FACTORS = ((1000, 971), (1000, 952, 908), (1000, 885))  # of L, T, R; the last goes on
 
 
-def lane_factor(g, n):
-    """Lane factor of n lanes (at least 1) of group g, in thousandths."""
+def table_factor(g, n):
+    """The table's lane factor of n lanes (at least 1) of group g, in thousandths."""
     table = LANE_FACTORS[g]
     return table[min(n, len(table)) - 1]
+
+
+def lane_factor(leg, g, n):
+    """Lane factor of n lanes (at least 1) of group g: the measured one, also of one lane, or the table's."""
+    return table_factor(g, n) if leg.measured[g] == BY_TABLE else leg.measured[g]
 
 
 def flow(leg, g, n, f):
     """Saturated flow of n lanes of group g with turning factor f, in tenths."""
     if n == 0:
         return 0
-    return FLOW_UNIT * leg.ideal[g] * n * lane_factor(g, n) * f // 10**7
+    return FLOW_UNIT * leg.ideal[g] * n * lane_factor(leg, g, n) * f // 10**7
 
 
 def folded_right(leg):
@@ -211,7 +244,7 @@ def line_8(leg):
 
 
 def line_9(leg):
-    """sSL: flow of the lefts by themselves; a shared lane counts as one left lane."""
+    """sSL: flow of the lefts by themselves; a shared lane counts as one left lane, with the left movement's own factor."""
     return flow(leg, L, 1, 9500) if leg.shared else leg.line[5]
 
 
@@ -508,7 +541,7 @@ def worked_legs(entries):
 
 
 def fill(entries):
-    """The 209 cells of a fresh sheet. The entries must be acceptable."""
+    """The 221 cells of a fresh sheet. The entries must be acceptable."""
     refusal = judge(entries)
     if refusal != (0, 0):
         raise ValueError("refused: %d at %d" % refusal)
@@ -517,7 +550,7 @@ def fill(entries):
     sheet = list(entries)
     for leg in legs:
         sheet += leg.line[1:]
-    return sheet + pairs[0] + pairs[1] + last_eight(legs, pairs, entries[80])
+    return sheet + pairs[0] + pairs[1] + last_eight(legs, pairs, entries[CYCLE])
 
 
 def beside(entries):
@@ -529,7 +562,7 @@ def beside(entries):
 
 def cell(a, k):
     """Where line k of approach a stands in the sheet."""
-    return 81 + 28 * a + k - 1
+    return LINES_AT + 28 * a + k - 1
 
 
 # ---------------------------------------------------------------- amendments
@@ -542,6 +575,7 @@ MOVEMENT_REACH = (
     (ALL_LINES, range(21, 27)),   # ideal flow
     ((16, 17, 18, 26, 28), ()),   # lost time
     ((16, 17, 18, 26, 28), ()),   # minimum green
+    (ALL_LINES, range(21, 27)),   # measured lane factor
 )
 APPROACH_REACH = (
     (ALL_LINES, range(21, 27)),                                       # shared lane
@@ -554,26 +588,26 @@ APPROACH_REACH = (
 
 def reach(entry):
     """Cells that an amendment of this entry works out afresh, the entry itself apart."""
-    if entry == 80:
-        return list(range(81, 209))
-    if entry < 60:
-        a, (own, opposite) = entry // 15, MOVEMENT_REACH[entry % 5]
+    if entry == CYCLE:
+        return list(range(LINES_AT, CELLS))
+    if entry < OWN:
+        a, (own, opposite) = entry // 18, MOVEMENT_REACH[entry % 6]
     else:
-        a, (own, opposite) = (entry - 60) // 5, APPROACH_REACH[entry % 5]
+        a, (own, opposite) = (entry - OWN) // 5, APPROACH_REACH[(entry - OWN) % 5]
     cells = [cell(a, k) for k in own] + [cell(a ^ 1, k) for k in opposite]
-    free_right = entry >= 60 and entry % 5 == 4
+    free_right = entry >= OWN and (entry - OWN) % 5 == 4
     if not free_right:
-        cells += range(193 + 4 * (a // 2), 197 + 4 * (a // 2))
-    return sorted(cells) + list(range(201, 209))
+        cells += range(PAIRS + 4 * (a // 2), PAIRS + 4 * (a // 2) + 4)
+    return sorted(cells) + list(range(LAST, CELLS))
 
 
 def amend(sheet, entry, value):
     """Change one entry of a sheet where it stands; (number, place), (0, 0) if accepted."""
-    if len(sheet) != 209:
+    if len(sheet) != CELLS:
         return (1, 0)
-    if entry > 80:
+    if entry >= ENTRIES:
         return (2, 0)
-    entries = sheet[:81]
+    entries = sheet[:ENTRIES]
     entries[entry] = value
     refusal = judge(entries)
     if refusal != (0, 0):
@@ -588,10 +622,10 @@ def amend(sheet, entry, value):
 # ---------------------------------------------------------------- diamond interchanges
 
 EB, WB, NB, SB = range(4)
-EAST = 81  # where the east junction's entries begin in a record
-STORAGES = 162
-TRAVEL = 166
-RECORD = 167
+EAST = 93  # where the east junction's entries begin in a record
+STORAGES = 186
+TRAVEL = 190
+RECORD = 191
 DIAMOND_CELLS = 29
 STORAGE_LIMITS = (1, 999)
 TRAVEL_LIMITS = (0, 60000)
@@ -618,8 +652,8 @@ def both_places(record, search, step):
 def diamond_range_place(record):
     """Lowest entry of both junctions outside its range; the east's cycle is also wrong where it is not the west's."""
     place = both_places(record, range_place, EAST)
-    if place is None and record[EAST + 80] != record[80]:
-        return EAST + 80
+    if place is None and record[EAST + CYCLE] != record[CYCLE]:
+        return EAST + CYCLE
     return place
 
 
@@ -678,7 +712,7 @@ def leading_alternate(west, east, travel):
 def per_cycle(record, k):
     """N of storage k: 3600 times the lefts that come in a cycle, by their entry."""
     side, a = STORED[k]
-    return record[EAST * side + 15 * a + 1] * record[80]
+    return record[EAST * side + movement_entry(3 * a + L, 1)] * record[CYCLE]
 
 
 def fits(n, storage):
@@ -709,26 +743,26 @@ def diamond(record):
     pairs = list(zip(isolated(west), isolated(east))) + [(overlap(west, record[TRAVEL]), overlap(east, record[TRAVEL]))]
     three = plans(record, west, east)
     best = min(three)
-    icu = up(best, record[80])
+    icu = up(best, record[CYCLE])
     return west + east + [x for pair in pairs for x in pair] + three + [three.index(best), best, icu, letter(icu)]
 
 
 # ---------------------------------------------------------------- open studies
 
-PLACES = 180
+PLACES = 165
 FREE = 0  # the owner of a place that nobody has
 OPEN_OPENING = b"ICUO"
-OPEN_BYTES = 4 + 4 * PLACES + BLOCK * PLACES
+OPEN_BYTES = 4 + 4 * PLACES + 4 * ENTRIES * PLACES
 
 
 def open_sizes(owners, blocks):
     """Whether both lists of an open study are as long as they must be."""
-    return len(owners) == PLACES and len(blocks) == 81 * PLACES
+    return len(owners) == PLACES and len(blocks) == ENTRIES * PLACES
 
 
 def place_block(blocks, place):
-    """The 81 entries that stand at a place."""
-    return blocks[81 * place:81 * place + 81]
+    """The 93 entries that stand at a place."""
+    return blocks[ENTRIES * place:ENTRIES * (place + 1)]
 
 
 def has_site(owners, office, site):
@@ -738,7 +772,7 @@ def has_site(owners, office, site):
 
 def open_add(owners, blocks, office, entries):
     """Put the entries at the lowest free place: (number, place) of the answer, and the place they got, or None."""
-    if not open_sizes(owners, blocks) or len(entries) != 81:
+    if not open_sizes(owners, blocks) or len(entries) != ENTRIES:
         return (1, 0), None
     if office == FREE:
         return (9, 0), None
@@ -749,7 +783,7 @@ def open_add(owners, blocks, office, entries):
         return (10, 0), None
     place = owners.index(FREE)
     owners[place] = office
-    blocks[81 * place:81 * place + 81] = entries
+    blocks[ENTRIES * place:ENTRIES * (place + 1)] = entries
     return (0, 0), place
 
 
@@ -757,7 +791,7 @@ def open_amend(owners, blocks, office, site, entry, value):
     """Change one entry of a site in its block; (number, place), (0, 0) if accepted."""
     if not open_sizes(owners, blocks):
         return (1, 0)
-    if entry > 80:
+    if entry >= ENTRIES:
         return (2, 0)
     if not has_site(owners, office, site):
         return (9, site)
@@ -765,13 +799,13 @@ def open_amend(owners, blocks, office, site, entry, value):
     entries[entry] = value
     refusal = judge(entries)
     if refusal == (0, 0):
-        blocks[81 * site + entry] = value
+        blocks[ENTRIES * site + entry] = value
     return refusal
 
 
 def open_read(owners, blocks, office, site, sheet):
     """Fill the sheet where it stands from a site's block; (number, place), (0, 0) if accepted."""
-    if not open_sizes(owners, blocks) or len(sheet) != 209:
+    if not open_sizes(owners, blocks) or len(sheet) != CELLS:
         return (1, 0)
     if not has_site(owners, office, site):
         return (9, site)
@@ -797,35 +831,42 @@ def open_lists(data):
 
 # ---------------------------------------------------------------- study file and listing
 
+# Two kinds of study file, each by its opening: how many sites it holds at most, and how many numbers a block of it has.
+OPENING, MOST_SITES = b"ICUT", 165
+OLD_OPENING, OLD_MOST_SITES = b"ICUS", 180
+KINDS = {OPENING: (MOST_SITES, ENTRIES), OLD_OPENING: (OLD_MOST_SITES, OLD_ENTRIES)}
+
+
 def number_at(data, at):
     """The four bytes from there on, read as one number."""
     return int.from_bytes(data[at:at + 4], "little")
 
 
-def block_start(k, j):
-    """Where block j of k stands; block k would start where the file ends."""
-    return 8 + 4 * k + BLOCK * j
+def block_start(k, j, numbers=ENTRIES):
+    """Where block j of k stands, of blocks of so many numbers; block k would start where the file ends."""
+    return 8 + 4 * k + 4 * numbers * j
 
 
 def study_check(data):
-    """(0, 0) for a well laid out study file, else 6 and the place."""
+    """(0, 0) for a well laid out study file of either kind, else 6 and the place."""
     size = len(data)
     if size < 4:
         return (6, size)
-    if data[:4] != OPENING:
+    if data[:4] not in KINDS:
         return (6, 0)
+    most, numbers = KINDS[data[:4]]
     if size < 8:
         return (6, size)
     k = number_at(data, 4)
-    if k > MOST_SITES:
+    if k > most:
         return (6, 4)
     for j in range(k):
         if size < 12 + 4 * j:
             return (6, size)
-        if number_at(data, 8 + 4 * j) != block_start(k, j):
+        if number_at(data, 8 + 4 * j) != block_start(k, j, numbers):
             return (6, 8 + 4 * j)
-    if size != block_start(k, k):
-        return (6, min(size, block_start(k, k)))
+    if size != block_start(k, k, numbers):
+        return (6, min(size, block_start(k, k, numbers)))
     return (0, 0)
 
 
@@ -838,18 +879,19 @@ def study_site_check(data, site):
 
 
 def study_site(data, site):
-    """The bytes of a site's block; none on a refusal."""
+    """The bytes of a site's block, as many as its kind of file has; none on a refusal."""
     if study_site_check(data, site) != (0, 0):
         return data[:0]
-    at = block_start(number_at(data, 4), site)
-    return data[at:at + BLOCK]
+    numbers = KINDS[data[:4]][1]
+    at = block_start(number_at(data, 4), site, numbers)
+    return data[at:at + 4 * numbers]
 
 
 def study_write(numbers, out):
     """Write a study of these entries at the start of a bytearray; the rest of it stays."""
-    if len(numbers) % 81 != 0:
+    if len(numbers) % ENTRIES != 0:
         return (1, 0)
-    k = len(numbers) // 81
+    k = len(numbers) // ENTRIES
     if k > MOST_SITES:
         return (6, 0)
     if len(out) < block_start(k, k):
@@ -859,9 +901,30 @@ def study_write(numbers, out):
     return (0, 0)
 
 
+def widened(old):
+    """The entries of a site before lane factors were measured, as 93: the table's factor for each movement."""
+    movements = [old[5 * m:5 * m + 5] + [BY_TABLE] for m in range(12)]
+    return [x for movement in movements for x in movement] + old[60:]
+
+
 def block_entries(block):
-    """The 81 numbers of a site's block."""
-    return [number_at(block, 4 * i) for i in range(81)]
+    """The 93 entries that a site's block of either kind of file stands for."""
+    numbers = [number_at(block, at) for at in range(0, len(block), 4)]
+    return widened(numbers) if len(numbers) == OLD_ENTRIES else numbers
+
+
+def study_sites(data):
+    """The entries of every site of a good file."""
+    return [block_entries(study_site(data, j)) for j in range(number_at(data, 4))]
+
+
+def study_file(sites):
+    """The bytes of a study file of these sites, at most 165."""
+    out = bytearray(block_start(len(sites), len(sites)))
+    answer = study_write([x for entries in sites for x in entries], out)
+    if answer != (0, 0):
+        raise ValueError("refused: %d at %d" % answer)
+    return bytes(out)
 
 
 def site_line(number, entries):
@@ -870,8 +933,8 @@ def site_line(number, entries):
     if refusal != (0, 0):
         return "%d R%d %d\n" % ((number,) + refusal)
     sheet = fill(entries)
-    return "%d %d %s %s%s\n" % (number, sheet[207], "ABCDEFGH"[sheet[208]],
-                                "PMS"[sheet[196]], "PMS"[sheet[200]])
+    return "%d %d %s %s%s\n" % (number, sheet[LAST + 6], "ABCDEFGH"[sheet[LAST + 7]],
+                                "PMS"[sheet[PAIRS + 3]], "PMS"[sheet[PAIRS + 7]])
 
 
 def listing(data):
@@ -879,5 +942,4 @@ def listing(data):
     refusal = study_check(data)
     if refusal != (0, 0):
         return "file R%d %d\n" % refusal
-    return "".join(site_line(j + 1, block_entries(study_site(data, j)))
-                   for j in range(number_at(data, 4)))
+    return "".join(site_line(j + 1, entries) for j, entries in enumerate(study_sites(data)))

@@ -2,7 +2,7 @@
 
     python3 tests/second/junctions.py OUTDIR
 
-writes OUTDIR/stdin (81 little-endian 32-bit entries a junction) and OUTDIR/stdout.
+writes OUTDIR/stdin (93 little-endian 32-bit entries a junction) and OUTDIR/stdout.
 """
 
 import os
@@ -11,28 +11,29 @@ import sys
 sys.dont_write_bytecode = True  # leave no cache beside the sources
 
 import icu2003
+from icu2003 import CYCLE, approach_entry, movement_entry
 
 
 # ---------------------------------------------------------------- parts
 
 def approach(left=(0, 0), through=(0, 0), right=(0, 0), shared=0, peds=0, button=1,
-             ped_time=16000, free=0, ideal=1900, lost=4000, minimum=4000):
+             ped_time=16000, free=0, ideal=1900, lost=4000, minimum=4000, factor=icu2003.BY_TABLE):
     """One approach: (lanes, volume) of each movement, and what holds for all three.
 
-    ideal, lost and minimum are one number, or three for left, through, right.
+    ideal, lost, minimum and factor are one number, or three for left, through, right.
     """
     def three(x):
         return x if isinstance(x, tuple) else (x, x, x)
 
     movements = []
-    for (lanes, volume), i, t, m in zip((left, through, right),
-                                        three(ideal), three(lost), three(minimum)):
-        movements += [lanes, volume, i, t, m]
+    for (lanes, volume), i, t, m, f in zip((left, through, right),
+                                           three(ideal), three(lost), three(minimum), three(factor)):
+        movements += [lanes, volume, i, t, m, f]
     return {"movements": movements, "rest": [shared, peds, button, ped_time, free]}
 
 
 def junction(eb, wb, nb, sb, cycle=120):
-    """The 81 entries of four approaches and a cycle."""
+    """The 93 entries of four approaches and a cycle."""
     legs = (eb, wb, nb, sb)
     return ([x for leg in legs for x in leg["movements"]]
             + [x for leg in legs for x in leg["rest"]] + [cycle])
@@ -52,6 +53,11 @@ def changed(entries, changes):
 
 
 NOTHING = approach()  # a leg that is not there
+# The entries of a movement and of an approach, by their kinds.
+LANES, VOLUME, IDEAL, LOST, MINIMUM, FACTOR = range(6)
+SHARED_LANE, PEDESTRIANS, BUTTON, PED_TIME, FREE_RIGHT = range(5)
+EBL, EBT, EBR, WBL, WBT, WBR, NBL, NBT, NBR, SBL, SBT, SBR = range(12)
+
 PLAIN = approach(left=(1, 100), through=(1, 400))
 SHARED = approach(left=(0, 100), through=(1, 300), right=(0, 100), shared=1)
 K1 = everywhere(PLAIN)
@@ -333,30 +339,106 @@ def wide_gates():
     ]
 
 
+# ---------------------------------------------------------------- measured lane factors
+
+def measured_street():
+    """The street of the engineers' page: two through lanes counted lane by lane, and across it a shared lane whose lefts were."""
+    east, west = approach((1, 100), (2, 800), factor=(0, 870, 0)), approach((1, 100), (2, 700), factor=(0, 940, 0))
+    lefts = approach((0, 200), (1, 60), (0, 20), shared=1, factor=(800, 950, 0))
+    return [("measured: the engineers' street", junction(east, west, lefts, approach(through=(1, 110))))]
+
+
+def measured_lanes():
+    """Lanes of movements with lanes of their own: one, which the table would not change, and more of them."""
+    one = approach((1, 59), (1, 400), (1, 120), factor=500)
+    two = approach((2, 300), (2, 800), (2, 500), factor=(930, 870, 790))
+    wide = approach((1, 100), (4, 2400), (0, 90), factor=(0, 1000, 0))
+    rights = approach((1, 80), (1, 300), (1, 600), peds=20, factor=(0, 0, 700))
+    some = approach((3, 500), (3, 1400), (3, 300), factor=(971, 0, 999))
+    return [
+        ("measured: one lane for each movement, at 0.5", everywhere(one)),
+        ("measured: two lanes for each movement", junction(two, approach((2, 300), (2, 800), (2, 500)), two, PLAIN)),
+        ("measured: four through lanes all used alike", junction(wide, PLAIN, PLAIN, wide)),
+        ("measured: a right lane, and its total decides", junction(rights, PLAIN, rights, PLAIN)),
+        ("measured: lefts and rights of three lanes, the table for the throughs", junction(some, PLAIN, some, some)),
+        ("measured: some single lanes", junction(
+            approach((1, 59), (1, 400), factor=(600, 0, 0)), approach((1, 59), (1, 400), factor=(0, 600, 0)),
+            approach((1, 200), (1, 100), factor=(501, 999, 1000)), approach((1, 200), (1, 120), factor=(1000, 500, 500)))),
+    ]
+
+
+def measured_shared():
+    """Shared lanes, whose lefts by themselves go by the left movement's factor; and factors of movements that have no lane."""
+    lefts = approach((0, 300), (1, 20), shared=1, factor=(600, 900, 0))
+    throughs = approach((0, 300), (1, 20), shared=1, factor=(0, 600, 0))
+    two = approach((0, 120), (2, 500), (0, 60), shared=1, factor=(550, 880, 700))
+    slow_eb = approach((0, 9999), (1, 36), (0, 9999), shared=1, peds=2000, ideal=1000, lost=20000, factor=500)
+    slow_wb = approach((0, 1), (1, 9999), (0, 9999), shared=1, ideal=1000, factor=500)
+    quiet = approach(through=(1, 110))
+    return [
+        ("measured: lefts of a shared lane by their own factor", junction(lefts, quiet, quiet, throughs)),
+        ("measured: two shared lanes", junction(two, quiet, two, two)),
+        ("measured: single against single", junction(
+            approach((0, 100), (1, 300), (0, 100), shared=1, factor=(500, 800, 600)),
+            approach((0, 100), (1, 300), (0, 100), shared=1, factor=(1000, 700, 0)), PLAIN, PLAIN)),
+        ("measured: movements without lanes", junction(
+            approach((0, 0), (1, 400), (0, 70), factor=(500, 0, 500)), approach((1, 90), (0, 0), (0, 0), factor=(0, 500, 500)),
+            approach(factor=500), approach((1, 60), (1, 200), (0, 90), factor=(0, 0, 500)))),
+        ("measured: longest option A", junction(slow_eb, slow_wb, NOTHING, NOTHING, cycle=240)),
+        ("measured: everything at its least", everywhere(approach(
+            (1, 59), (1, 100), (1, 100), ideal=1000, lost=0, minimum=0, ped_time=0, factor=500), cycle=30)),
+    ]
+
+
 # ---------------------------------------------------------------- refused
 
 def refused():
     """Entries out of range, impossible shared lanes, volume without a lane."""
-    shared_both = changed(K1, {65: 1, 75: 1})
+    shared_both = changed(K1, {approach_entry(a, SHARED_LANE): 1 for a in (icu2003.WB, icu2003.SB)})
+    no_lane = {movement_entry(m, LANES): 0 for m in (NBT, SBT)}
     return [
-        ("cycle 29", changed(K1, {80: 29})),
+        ("cycle 29", changed(K1, {CYCLE: 29})),
         ("two entries out of range, bad shared lanes besides", changed(
-            shared_both, {3: 20001, 79: 2})),
-        ("a flow left at 0 where there is no lane", changed(K1, {12: 0})),
+            shared_both, {movement_entry(EBL, LOST): 20001, approach_entry(icu2003.SB, FREE_RIGHT): 2})),
+        ("a flow left at 0 where there is no lane", changed(K1, {movement_entry(EBR, IDEAL): 0})),
         ("shared lane beside a left lane", shared_both),
         ("shared lane without a through lane, volumes without lanes", changed(
-            K1, {0: 0, 45: 0, 46: 0, 50: 0, 75: 1})),
-        ("lefts without a lane", changed(K1, {15: 0})),
-        ("throughs without a lane", changed(K1, {35: 0, 50: 0})),
-        ("rights without a lane", changed(K1, {35: 0, 36: 0, 41: 1})),
+            K1, {movement_entry(EBL, LANES): 0, movement_entry(SBL, LANES): 0, movement_entry(SBL, VOLUME): 0,
+                 movement_entry(SBT, LANES): 0, approach_entry(icu2003.SB, SHARED_LANE): 1})),
+        ("lefts without a lane", changed(K1, {movement_entry(WBL, LANES): 0})),
+        ("throughs without a lane", changed(K1, no_lane)),
+        ("rights without a lane", changed(K1, {
+            movement_entry(NBT, LANES): 0, movement_entry(NBT, VOLUME): 0, movement_entry(NBR, VOLUME): 1})),
+    ]
+
+
+def refused_factors():
+    """Measured lane factors that are none, of movements with lanes and without."""
+    def typed(m, value):
+        return changed(K1, {movement_entry(m, FACTOR): value})
+
+    two = {movement_entry(NBR, FACTOR): 1001, movement_entry(WBL, FACTOR): 2, movement_entry(WBT, LANES): 0, CYCLE: 29}
+    return [
+        ("measured: a lane factor of 1 thousandth", typed(EBL, 1)),
+        ("measured: a lane factor of 499", typed(WBT, 499)),
+        ("measured: a lane factor of 1,001", typed(NBL, 1001)),
+        ("measured: 499 without a lane", typed(SBR, 499)),
+        ("measured: 971 typed for 0.971", typed(EBT, 971000)),
+        ("measured: two lane factors out of range, a lane and the cycle besides", changed(K1, two)),
     ]
 
 
 def all_junctions():
     """All (name, entries), in the order they are run."""
     parts = (k_junctions, book_examples, odd_legs, closed_legs, shared_lanes, oncoming_single, large,
-             cycles_and_flows, pedestrians, right_turns, picks, letters, refused, narrow_gates, wide_gates, street_gate)
+             cycles_and_flows, pedestrians, right_turns, picks, letters, refused, narrow_gates, wide_gates, street_gate,
+             measured_lanes, measured_shared, measured_street, refused_factors)
     return [named for part in parts for named in part()]
+
+
+def by_table(entries):
+    """Whether no lane factor is measured, as in every site of before."""
+    return all(entries[movement_entry(m, FACTOR)] == icu2003.BY_TABLE for m in range(12))
 
 
 # ---------------------------------------------------------------- the text expected
@@ -368,7 +450,7 @@ def expected(number, entries):
         rows = ["R%d %d" % refusal]
     else:
         sheet = icu2003.fill(entries)
-        cuts = [81, 109, 137, 165, 193, 197, 201, 209]
+        cuts = [icu2003.cell(a, 1) for a in range(4)] + [icu2003.PAIRS, icu2003.PAIRS + 4, icu2003.LAST, icu2003.CELLS]
         rows = [" ".join(map(str, sheet[i:j])) for i, j in zip(cuts, cuts[1:])]
     return "".join(row + "\n" for row in ["junction %d" % number] + rows)
 

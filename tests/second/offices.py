@@ -16,7 +16,7 @@ import table
 
 # ---------------------------------------------------------------- what is said
 
-USE = (b"usage: icuoffice STUDY new                                   makes an open study of 180 free places\n"
+USE = (b"usage: icuoffice STUDY new                                   makes an open study of 165 free places\n"
        b"       icuoffice STUDY OFFICE add TEXT                       puts the text's junction at the lowest free place\n"
        b"       icuoffice STUDY OFFICE amend SITE NAME ENTRY VALUE    changes an entry of a site of the office's own\n"
        b"       icuoffice STUDY OFFICE read SITE                      prints the sheet of a site of the office's own\n"
@@ -106,7 +106,7 @@ def new(words, stood, _):
         raise Said(study, THERE)
     if stood.closed:
         raise Said(study, UNWRITTEN)
-    return b"", icu2003.open_file([icu2003.FREE] * icu2003.PLACES, [0] * 81 * icu2003.PLACES)
+    return b"", icu2003.open_file([icu2003.FREE] * icu2003.PLACES, [0] * icu2003.ENTRIES * icu2003.PLACES)
 
 
 def add(words, stood, text):
@@ -126,7 +126,7 @@ def add(words, stood, text):
 
 def sheet_of(lists, office, site):
     """The answer to a read, and the sheet where it is accepted."""
-    sheet = [None] * 209
+    sheet = [None] * icu2003.CELLS
     answer = icu2003.open_read(*lists, office, site, sheet)
     return answer, sheet if answer == (0, 0) else None
 

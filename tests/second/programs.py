@@ -2,8 +2,8 @@
 
     python3 tests/second/programs.py PART
 
-PART is one of: usage, samples, junctions, runs, typed, damaged, studies, amendments, kept, diamond, office. Programs are taken from
-target/bin and samples from samples/, under the project's root, where this is to be started. The last line counts what was compared.
+PART is one of: usage, samples, junctions, runs, typed, damaged, studies, amendments, convert, kept, diamond, office. Programs are taken
+from target/bin and samples from samples/, under the project's root, where this is to be started. The last line counts what was compared.
 """
 
 import os
@@ -21,12 +21,16 @@ import icu2003
 import junctions
 import offices
 import table
+from icu2003 import CYCLE, ENTRIES, PLACES, STORAGES, TRAVEL, approach_entry, in_range, movement_entry
+from junctions import LANES, SHARED_LANE, VOLUME
+from studies import narrowed, old_file, old_study, put
 
 BIN = os.path.abspath("target/bin")
 SAMPLES = "samples/table"
 DIAMONDS = "samples/diamond"
 OFFICES = "samples/office"
 NAMES = list(table.TITLES)
+NAMED = dict(junctions.all_junctions())
 MARK = b"\xef\xbb\xbf"  # a byte-order mark
 CHANGES_MOST = 20
 
@@ -85,9 +89,7 @@ class Bench:
 
 def study_of(sites):
     """The bytes of a study file of these sites."""
-    out = bytearray(icu2003.block_start(len(sites), len(sites)))
-    assert icu2003.study_write([x for e in sites for x in e], out) == (0, 0)
-    return bytes(out)
+    return icu2003.study_file(sites)
 
 
 def all_pages(path, sites):
@@ -107,40 +109,48 @@ def typed_sheet(path, data):
 
 
 def pick(rng, entry):
+    """A value in range; of a lane factor half the time the table's."""
     least, most = icu2003.limits(entry)
+    if icu2003.is_lane_factor(entry) and rng.random() < 0.5:
+        return icu2003.BY_TABLE
     return rng.choice((least, most, rng.randint(least, most), rng.randint(least, most)))
 
 
 def likely(rng):
     """Entries that are mostly acceptable."""
     entries = list(table.USUAL)
-    for entry in range(81):
-        if entry % 5 < 2 or entry >= 60 or rng.random() < 0.3:
+    for entry in range(ENTRIES):
+        if entry >= icu2003.OWN or entry % 6 in (LANES, VOLUME) or rng.random() < 0.3:
             entries[entry] = pick(rng, entry)
     for a in range(4):
+        left, through = movement_entry(3 * a, LANES), movement_entry(3 * a + 1, LANES)
         if rng.random() < 0.9:
-            entries[15 * a + 5] = max(1, entries[15 * a + 5])
-            if entries[60 + 5 * a]:
-                entries[15 * a] = 0
+            entries[through] = max(1, entries[through])
+            if entries[approach_entry(a, SHARED_LANE)]:
+                entries[left] = 0
             else:
-                entries[15 * a] = max(1, entries[15 * a])
+                entries[left] = max(1, entries[left])
     return entries
+
+
+def of_before(entries):
+    """The entries as a study of before holds them: the table's lane factor for each movement."""
+    return icu2003.widened(narrowed(entries))
 
 
 def typed_value(rng, kind, value):
     """A value in one of the ways in which it may be typed."""
-    word = str(value).zfill(rng.choice((1, 1, 1, 6)))
-    if kind not in table.TIMES:
-        return word
-    exact = table.value_text(kind, value)
-    padded = "%0*d.%03ds" % ((rng.choice((1, 4)),) + divmod(value, 1000))
-    return rng.choice((exact, exact, padded, word + "ms"))
+    word, exact = str(value).zfill(rng.choice((1, 1, 1, 6))), table.value_text(kind, value)
+    padded = "%0*d.%03d" % ((rng.choice((1, 4)),) + divmod(value, 1000))
+    if kind in table.FACTORS:
+        return rng.choice((exact, exact, padded))
+    return rng.choice((exact, exact, padded + "s", word + "ms")) if kind in table.TIMES else word
 
 
 def loosely(rng, entries):
     """A text of these entries in any order and layout, with comments."""
     parts = []
-    for entry in rng.sample(range(81), 81):
+    for entry in rng.sample(range(ENTRIES), ENTRIES):
         group, kind = table.entry_name(entry).split()
         parts.append((group, kind, typed_value(rng, kind, entries[entry])))
     gaps = (" ", "\t", "\n", "\r\n", "  ", "# a comment, EBL lanes 9\n", " #\n", "\n\n")
@@ -223,7 +233,24 @@ SAID_OF_CHANGES = (
     (("junction", "travel-time", "7s"), b"travel-time: no entry has this name there\n"),
     (("EBT", "lost-time", "4294968s"), b"4294968s: this number is too large\n"),
     (("EBT", "volume", "4294967296"), b"4294967296: this number is too large\n"),
+    (("EBT", "lane-factor", "971"), b"R3: EBT lane-factor is outside 0 or 0.5 to 1\n"),
+    (("SBR", "lane-factor", "0.499"), b"R3: SBR lane-factor is outside 0 or 0.5 to 1\n"),
+    (("EBT", "lane-factor", "1.001"), b"R3: EBT lane-factor is outside 0 or 0.5 to 1\n"),
+    (("EBT", "lane-factor", "0.001"), b"R3: EBT lane-factor is outside 0 or 0.5 to 1\n"),
+    (("EBT", "lane-factor", "0.9710"), b"0.9710: a factor is written as 0.971 or 1, or as 0 for the table's\n"),
+    (("EBT", "lane-factor", ".971"), b".971: a factor is written as 0.971 or 1, or as 0 for the table's\n"),
+    (("EBT", "lane-factor", "table"), b"table: a factor is written as 0.971 or 1, or as 0 for the table's\n"),
+    (("EBT", "lane-factor", "1s"), b"1s: a factor is written as 0.971 or 1, or as 0 for the table's\n"),
+    (("EBT", "lane-factor", ""), b": a factor is written as 0.971 or 1, or as 0 for the table's\n"),
+    (("EBT", "lane-factor", "4294967.296"), b"4294967.296: this number is too large\n"),
+    (("EB", "lane-factor", "1"), b"lane-factor: no entry has this name there\n"),
 )
+
+# How icustudy is used, and what icuamend says of a movement's entries.
+STUDY_USE = (b"usage: icustudy make STUDY TEXT ...   makes a study file of the junctions in the texts\n"
+             b"       icustudy show STUDY SITE       prints a site of a study file as text, sites from 1\n"
+             b"       icustudy convert STUDY NEW     writes a study of before (ICUS) as one of today (ICUT)\n")
+MOVEMENT_USE = b"\n  NAME: EBL EBT EBR .. SBR with lanes volume ideal-flow lost-time minimum-green lane-factor,\n"
 
 
 def usage(b):
@@ -232,32 +259,23 @@ def usage(b):
                            ("icuamend", ((), ("a",), ("a", "1", "EBT", "volume"), ("a", "1", "EBT", "volume", "1", "n", "o"),
                                          ("a", "1") + ("EBT", "volume", "1") * 21, ("a", "1") + ("EBT", "volume", "1") * 21 + ("n",),
                                          ("a", "1") + ("EBT", "volume", "1") * 400, ("--help", "a"), ("--version", "a"), ("-h",))),
-                           ("icustudy", ((), ("make",), ("make", "a"), ("show", "a"), ("mend", "a", "b"), ("show", "a", "1", "2")))):
+                           ("icustudy", ((), ("make",), ("make", "a"), ("show", "a"), ("mend", "a", "b"), ("show", "a", "1", "2"), ("convert",),
+                                         ("convert", "a"), ("convert", "a", "b", "c"), ("Convert", "a", "b")))):
         for words in calls:
             out, said = b.run(program, *words)
             b.same("output of %s" % program, out, b"")
             b.same("usage of %s" % program, said.startswith(b"usage: %s " % program.encode()), True)
-    study = b.put("s.icus", study_of([junctions.K1]))
+    b.same("jobs of icustudy", b.run("icustudy", "--help")[0].startswith(STUDY_USE), True)
+    b.same("entries of a movement", MOVEMENT_USE in b.run("icuamend", "--help")[0], True)
+    study = b.put("s.icut", study_of([junctions.K1]))
     for words, said in SAID_OF_CHANGES:
         b.same("said", b.run("icuamend", study, "1", *words), (b"", said))
         b.same("words", several_changes(junctions.K1, [word.encode() for word in words])[0], (b"", said))
     out, said = b.run("icuamend", "--help")
     b.same("help", (out, said), (b.run("icuamend")[1], b""))
     b.same("version", b.run("icuamend", "--version"), (version(), b""))
-    for word in ("0", "2", "x", "", "4294967296"):
-        b.same("no site", b.run("icuamend", study, word, "EBQ", "volume", "1"), (b"", word.encode() + b": the study has 1 site\n"))
-    b.same("no study", b.run("icuamend", "nothing", "1", "EBQ", "volume", "1"), (b"", b"nothing: cannot be read\n"))
-    for word in ("0", "2", "x", "", "4294967296", "9" * 20, "ALL", "all "):
-        for program in (("icusheet",), ("icustudy", "show")):
-            b.same("site", b.run(*program, study, word), (b"", word.encode() + b": the study has 1 site\n"))
-    for sites in (0, 3):
-        path = b.put("some.icus", study_of([junctions.K1] * sites))
-        b.same("no ninth", b.run("icusheet", path, "9"), (b"", b"9: the study has %d sites\n" % sites))
-    b.same("none of none", b.run("icusheet", b.put("none.icus", study_of([])), "all"), (b"", b"all: the study has 0 sites\n"))
-    text = os.path.join(SAMPLES, "k1.txt")
-    for word in ("1", "all"):
-        b.same("no study file", b.run("icusheet", text, word), (b"", text.encode() + b": R6: this is no study file\n"))
-    for program, more in (("icusheet", ()), ("icustudy", ())):
+    no_such_sites(b, study)
+    for program in ("icusheet", "icustudy"):
         b.same("help", b.run(program, "--help"), (b.run(program)[1], b""))
         b.same("version", b.run(program, "--version"), (version(), b""))
     for missing in ("nothing", ".", ""):
@@ -265,8 +283,26 @@ def usage(b):
     b.same("unwritable", b.run("icustudy", "make", ".", os.path.join(SAMPLES, "k1.txt")), (b"", b".: cannot be written\n"))
 
 
+def no_such_sites(b, study):
+    """Sites that a study lacks, a study of one site among them; and texts, which have none."""
+    for word in ("0", "2", "x", "", "4294967296"):
+        b.same("no site", b.run("icuamend", study, word, "EBQ", "volume", "1"), (b"", word.encode() + b": the study has 1 site\n"))
+    b.same("no study", b.run("icuamend", "nothing", "1", "EBQ", "volume", "1"), (b"", b"nothing: cannot be read\n"))
+    for word in ("0", "2", "x", "", "4294967296", "9" * 20, "ALL", "all "):
+        for program in (("icusheet",), ("icustudy", "show")):
+            b.same("site", b.run(*program, study, word), (b"", word.encode() + b": the study has 1 site\n"))
+    for made in (study_of, old_study):
+        for sites in (0, 3):
+            path = b.put("some.icut", made([junctions.K1] * sites))
+            b.same("no ninth", b.run("icusheet", path, "9"), (b"", b"9: the study has %d sites\n" % sites))
+        b.same("none of none", b.run("icusheet", b.put("none.icut", made([])), "all"), (b"", b"all: the study has 0 sites\n"))
+    text = os.path.join(SAMPLES, "k1.txt")
+    for word in ("1", "all"):
+        b.same("no study file", b.run("icusheet", text, word), (b"", text.encode() + b": R6: this is no study file\n"))
+
+
 def samples(b):
-    """The thirteen junctions: texts to a study and back, their sheets, and a change of each."""
+    """The fourteen junctions: texts to a study and back, their sheets, and a change of each."""
     texts = [os.path.join(SAMPLES, name + ".txt") for name in NAMES]
     for folder in (SAMPLES, b.folder):
         table.main(b.folder)
@@ -275,33 +311,43 @@ def samples(b):
                 with open(os.path.join(folder, name + kind), "rb") as f:
                     b.same(name + kind, f.read(), b.get(name + kind))
     sites = [entries for _, entries in table.samples()]
-    study = b.path("twelve.icus")
+    study = b.path("all.icut")
     b.same("make", b.run("icustudy", "make", study, *texts), (b"", b""))
-    b.same("study", b.get("twelve.icus"), study_of(sites))
+    b.same("study", b.get("all.icut"), study_of(sites))
     for number, name in enumerate(NAMES, 1):
         b.same("typed " + name, b.run("icusheet", texts[number - 1]), (b.get(name + ".sheet"), b""))
         b.same("site " + name, b.run("icusheet", study, str(number)), table.site_alone(study.encode(), sites, number))
         b.same("text " + name, b.run("icustudy", "show", study, str(number)), (b.get(name + ".full"), b""))
         words = b.get(name + ".amend").decode().split()
         b.same("change " + name, b.run("icuamend", study, str(number), *words), (b.get(name + ".changes"), b""))
-    b.same("all twelve", b.run("icusheet", study, "all"), all_pages(study, sites))
-    # the sample study's last site is refused: a cycle of 29 s
-    with open(os.path.join(os.path.dirname(SAMPLES), "study.icus"), "rb") as f:
-        data = f.read()
-    sites = [icu2003.block_entries(icu2003.study_site(data, number)) for number in range(11)]
-    b.same("a refused site", icu2003.judge(sites[10]), (3, 80))
-    b.same("all eleven", b.run("icusheet", b.put("eleven.icus", data), "all"), all_pages(b.path("eleven.icus"), sites))
-    mended = sites[10][:80] + [120]
-    b.put("eleven.icus", data)
-    b.same("mended", b.run("icuamend", b.path("eleven.icus"), "11", "junction", "cycle", "120", b.path("eleven.icus")),
-           (table.change_text(None, icu2003.fill(mended)).encode(), b""))
-    b.same("mended study", b.get("eleven.icus"), study_of(sites[:10] + [mended]))
+    b.same("all of them", b.run("icusheet", study, "all"), all_pages(study, sites))
+    sample_study(b)
+
+
+def sample_study(b):
+    """The sample study, of before and of today: the last site is refused, a cycle of 29 s, and can be mended once it is converted."""
+    read = {}
+    for name in ("study.icus", "study.icut"):
+        with open(os.path.join(os.path.dirname(SAMPLES), name), "rb") as f:
+            read[name] = b.put(name, f.read())
+        sites = icu2003.study_sites(b.get(name))
+        b.same("a refused site", icu2003.judge(sites[10]), (3, CYCLE))
+        b.same("all eleven", b.run("icusheet", read[name], "all"), all_pages(read[name], sites))
+    mended = junctions.changed(sites[10], {CYCLE: 120})
+    words, printed = ["11", "junction", "cycle", "120"], table.change_text(None, icu2003.fill(mended)).encode()
+    b.same("on paper", b.run("icuamend", read["study.icus"], *words), (printed, b""))
+    b.same("not before it is converted", b.run("icuamend", read["study.icus"], *words, b.path("mended.icut")),
+           (b"", read["study.icus"].encode() + CONVERT_FIRST))
+    b.same("converted", b.run("icustudy", "convert", read["study.icus"], b.path("mended.icut")), (b"", b""))
+    b.same("as the sample", b.get("mended.icut"), b.get("study.icut"))
+    b.same("mended", b.run("icuamend", b.path("mended.icut"), *words, b.path("mended.icut")), (printed, b""))
+    b.same("mended study", b.get("mended.icut"), study_of(sites[:10] + [mended]))
 
 
 def named(b):
     """Every named junction, acceptable or not."""
     sites = [entries for _, entries in junctions.all_junctions()]
-    study = b.put("named.icus", study_of(sites))
+    study = b.put("named.icut", study_of(sites))
     for number, entries in enumerate(sites, 1):
         b.same("named junction", b.run("icusheet", study, str(number)), table.site_alone(study.encode(), sites, number))
     b.same("all of them", b.run("icusheet", study, "all"), all_pages(study, sites))
@@ -309,13 +355,15 @@ def named(b):
 
 def correction(rng):
     """An entry and a value: mostly within the range, sometimes past an end."""
-    entry = rng.randrange(81)
+    entry = rng.randrange(ENTRIES)
     least, most = icu2003.limits(entry)
     roll = rng.random()
     if roll < 0.1:
         return entry, most + 1
     if roll < 0.15 and least > 0:
         return entry, least - 1
+    if icu2003.is_lane_factor(entry) and roll < 0.3:
+        return entry, rng.choice((icu2003.BY_TABLE, icu2003.BY_TABLE, 1))
     return entry, rng.choice((least, most, rng.randint(least, most), rng.randint(least, min(most, least + 200))))
 
 
@@ -325,26 +373,27 @@ def runs(b):
         if icu2003.judge(entries) != (0, 0):
             mending(b, entries)
             continue
-        study, sheet = b.put("run.icus", study_of([entries])), icu2003.fill(entries)
+        study, sheet = b.put("run.icut", study_of([entries])), icu2003.fill(entries)
         for entry, value in [correction(b.rng) for _ in range(16)]:
             before = list(sheet)
             answer = icu2003.amend(sheet, entry, value)
-            b.same("a fresh fill", sheet, icu2003.fill(sheet[:81]))
+            b.same("a fresh fill", sheet, icu2003.fill(sheet[:ENTRIES]))
             wanted = (b"", (table.refusal_text(*answer) + "\n").encode()) if answer[0] else (table.change_text(before, sheet).encode(), b"")
             b.same("run", b.run("icuamend", study, "1", *named_value(entry, value), study), wanted)
-            b.same("run's study", b.get("run.icus"), study_of([sheet[:81]]))
+            b.same("run's study", b.get("run.icut"), study_of([sheet[:ENTRIES]]))
 
 
 def mending(b, entries):
     """Changes of entries that are refused: each is judged as all entries would stand, until they can be filled."""
-    study = b.put("mend.icus", study_of([entries]))
-    usual = [(entry, table.USUAL[entry]) for entry in range(81) if not icu2003.limits(entry)[0] <= entries[entry] <= icu2003.limits(entry)[1]]
-    for entry, value in [correction(b.rng) for _ in range(4)] + usual + [(15 * a + 5, 2) for a in range(4)] + [(60 + 5 * a, 0) for a in range(4)]:
+    study = b.put("mend.icut", study_of([entries]))
+    usual = [(entry, table.USUAL[entry]) for entry in range(ENTRIES) if not in_range(entry, entries[entry])]
+    usual += [(movement_entry(3 * a + 1, LANES), 2) for a in range(4)] + [(approach_entry(a, SHARED_LANE), 0) for a in range(4)]
+    for entry, value in [correction(b.rng) for _ in range(4)] + usual:
         words = named_value(entry, value)
         wanted, after, made = several_changes(entries, [word.encode() for word in words])
         b.same("mending", b.run("icuamend", study, "1", *words, study), wanted)
         entries = after
-        b.same("mended", b.get("mend.icus"), study_of([entries]))
+        b.same("mended", b.get("mend.icut"), study_of([entries]))
 
 
 def any_title(rng):
@@ -360,17 +409,18 @@ def typed(b):
         data = (any_title(b.rng) if b.rng.random() < 0.5 else b"") + loosely(b.rng, likely(b.rng))
         path = b.put("typed.txt", data)
         b.same("typed", b.run("icusheet", path), typed_sheet(path, data))
-    study = study_of([junctions.K1, junctions.changed(junctions.K1, {80: 29})])
+    sites = [junctions.K1, junctions.changed(junctions.K1, {CYCLE: 29})]
     for name in ("a\x1b[31mb.txt", "x\x7f", "new\nline", "Stra\xdfe", "a b", "a: b, site 3 of 3", "n" * 200):
         path = b.put(name, b'title "Elm"\n' + table.write_text(junctions.K1).encode())
         b.same("name", b.run("icusheet", path), typed_sheet(path, b.get(name)))
-        b.put(name, study)
-        b.same("name of a study", b.run("icusheet", path, "all"), all_pages(path, [junctions.K1, junctions.changed(junctions.K1, {80: 29})]))
+        for study in (study_of(sites), old_study(sites)):
+            b.put(name, study)
+            b.same("name of a study", b.run("icusheet", path, "all"), all_pages(path, sites))
 
 
 def unread(b, data):
     """A text, whatever its bytes: its sheet or what is wrong; and no study is made of it if anything is."""
-    path, study = b.put("text.txt", data), b.path("made.icus")
+    path, study = b.put("text.txt", data), b.path("made.icut")
     wanted = typed_sheet(path, data)
     b.same("text", b.run("icusheet", path), wanted)
     if os.path.exists(study):
@@ -392,6 +442,10 @@ def damaged_texts(b):
                  b"EBL\0 lanes 1", b"EBL lanes 1,", b"junctions cycle 60", b"pedestrian-times 1",
                  b"EBL lost-time 4", b"EBL lost-time 4000", b"EBL lost-time 4.5s", b"EBL lost-time 4.5ms", b"EBL lost-time 4.1234s",
                  b"EBL lost-time 20.001s", b"EBL storage 20", b"junction travel-time 7s", b"storage 20",
+                 b"EBL lane-factor", b"EBL lane-factor 0.971", b"EBL lane-factor 971", b"EBL lane-factor .9", b"EBL lane-factor 0.", b"EBL lane-factor 0.9710",
+                 b"EBL lane-factor 0.5", b"EBL lane-factor 0.499", b"EBL lane-factor 1.000", b"EBL lane-factor 1.001", b"EBL lane-factor 00", b"lane-factor 1",
+                 b"EBL lane-factor 0.9s", b"EBL lane-factor 4294967.295", b"EBL lane-factor 4294967.296", b"EBL lane-factor table", b"EB lane-factor 1",
+                 b"EBL lane-factor 1 lane-factor 1", b"EBL lane-factors 1", b"EBL lane-factor 0.97 volume 5", b"SBR lanes 1\nlane-factor 0.001",
                  b"EBL lost-time 99999999999.5s", b"EB pedestrian-time 16", b"EBL volume 4s", b"junction cycle 120s", b"EBL lanes 99999999999",
                  b"Stra\xc3\x9fe", b"x" * 24, b"x" * 25, b"\x1b[31mEBL", b"\"EBL\"", b"EBL lanes 1\n  lane 2", b"EBL\tlanes\xc2\xa01",
                  b"title", b"title ", b'title "', b'title ""', b'title "x"', b'title "x"EBL lanes 1', b'title"x"', b"titles", b'title "x" title "y"',
@@ -412,25 +466,45 @@ def damaged_texts(b):
             unread(b, front + b"# " + b"x" * 70 + b"\n" + b" " * size)
 
 
-def studies(b):
-    """Sites of any numbers as texts and back, and study files of any bytes."""
-    for _ in range(60):
-        sites = [[b.rng.choice((0, 1, 2**32 - 1, b.rng.randrange(2**32), b.rng.randrange(3000))) for _ in range(81)]
-                 for _ in range(b.rng.randint(1, 3))]
-        study = b.put("any.icus", study_of(sites))
+def any_numbers(rng, size):
+    """So many numbers, small and large."""
+    return [rng.choice((0, 1, 2**32 - 1, rng.randrange(2**32), rng.randrange(3000), rng.randrange(490, 1010))) for _ in range(size)]
+
+
+def any_sites(rng):
+    """A study file of today or of before, of sites of any numbers, and the entries of its sites."""
+    if rng.random() < 0.5:
+        data = study_of([any_numbers(rng, ENTRIES) for _ in range(rng.randint(1, 3))])
+    else:
+        data = old_file([any_numbers(rng, icu2003.OLD_ENTRIES) for _ in range(rng.randint(1, 3))])
+    return data, icu2003.study_sites(data)
+
+
+def shown_sites(b):
+    """Sites of any numbers as texts and back, of both kinds of study file."""
+    for _ in range(80):
+        data, sites = any_sites(b.rng)
+        study = b.put("any.icut", data)
         for number, entries in enumerate(sites, 1):
             out, said = b.run("icustudy", "show", study, str(number))
             b.same("shown", (out, said), (table.write_text(entries).encode(), b""))
             b.same("read back", table.parse(out)[0], entries)
             b.same("sheet", b.run("icusheet", study, str(number)), table.site_alone(study.encode(), sites, number))
         b.same("sheets", b.run("icusheet", study, "all"), all_pages(study, sites))
-        b.same("no text", b.run("icusheet", study), typed_sheet(study, study_of(sites)))
-    whole = study_of([likely(b.rng) for _ in range(3)])
-    for _ in range(150):
-        data = whole if b.rng.random() < 0.1 else damaged(b.rng, whole)
-        path, answer = b.put("bad.icus", data), icu2003.study_check(data)
+        b.same("no text", b.run("icusheet", study), typed_sheet(study, data))
+
+
+def damaged_studies(b):
+    """Study files of both kinds with any damage."""
+    sites = [likely(b.rng) for _ in range(3)]
+    wholes = (study_of(sites), old_study([of_before(entries) for entries in sites]))
+    wholes += tuple(opening + data[4:] for opening, data in zip((b"ICUS", b"ICUT"), wholes))
+    for turn in range(220):
+        data = wholes[turn % 4]
+        data = data if b.rng.random() < 0.1 else damaged(b.rng, data)
+        path, answer = b.put("bad.icut", data), icu2003.study_check(data)
         if answer == (0, 0):
-            sites = [list(icu2003.block_entries(icu2003.study_site(data, j))) for j in range(icu2003.number_at(data, 4))]
+            sites = icu2003.study_sites(data)
             if sites:
                 b.same("good study", b.run("icusheet", path, "all"), all_pages(path, sites))
         else:
@@ -438,24 +512,43 @@ def studies(b):
             for word in ("1", "all"):
                 b.same("bad study", b.run("icusheet", path, word), wanted)
             b.same("bad study, shown", b.run("icustudy", "show", path, "1"), wanted)
-    full = [likely(b.rng) for _ in range(180)]
-    study = b.put("full.icus", study_of(full))
-    b.same("last of 180", b.run("icusheet", study, "180"), table.site_alone(study.encode(), full, 180))
-    b.same("all of 180", b.run("icusheet", study, "all"), all_pages(study, full))
+            b.same("bad study, amended", b.run("icuamend", path, "1", *CHANGE), wanted)
+
+
+def full_studies(b):
+    """As many sites as each kind holds; and one text too many."""
+    for most, made in ((165, study_of), (180, old_study)):
+        full = [likely(b.rng) if most == 165 else of_before(likely(b.rng)) for _ in range(most)]
+        study = b.put("full.icut", made(full))
+        b.same("last of all", b.run("icusheet", study, str(most)), table.site_alone(study.encode(), full, most))
+        b.same("all of them", b.run("icusheet", study, "all"), all_pages(study, full))
+        b.same("one more", b.run("icusheet", study, str(most + 1)), (b"", b"%d: the study has %d sites\n" % (most + 1, most)))
     k1 = os.path.join(SAMPLES, "k1.txt")
-    b.same("180 texts", b.run("icustudy", "make", b.path("most.icus"), *[k1] * 180), (b"", b""))
-    b.same("180 sites", b.get("most.icus"), study_of([junctions.K1] * 180))
-    b.same("181 texts", b.run("icustudy", "make", b.path("more.icus"), *[k1] * 181), (b"", b"a study holds at most 180 junctions\n"))
-    b.same("no file", os.path.exists(b.path("more.icus")), False)
+    b.same("165 texts", b.run("icustudy", "make", b.path("most.icut"), *[k1] * 165), (b"", b""))
+    b.same("165 sites", b.get("most.icut"), study_of([junctions.K1] * 165))
+    for more in (166, 180, 181):
+        b.same("%d texts" % more, b.run("icustudy", "make", b.path("more.icut"), *[k1] * more), (b"", b"a study holds at most 165 junctions\n"))
+    b.same("no file", os.path.exists(b.path("more.icut")), False)
+
+
+def studies(b):
+    """Study files of both kinds: sites of any numbers, any bytes, and as many sites as there may be."""
+    for part in (shown_sites, damaged_studies, full_studies):
+        part(b)
+
+
+# What icuamend says where it is to write a study of before.
+CONVERT_FIRST = b": a study of before (ICUS), which is not written any more: first icustudy convert it\n"
 
 
 def amendments(b):
     """Changes of any entry to any value: what changes, and the changed study."""
     for _ in range(250):
         sites = [likely(b.rng) for _ in range(b.rng.randint(1, 4))]
-        site, entry = b.rng.randrange(len(sites)), b.rng.randrange(81)
-        value = pick(b.rng, entry) if b.rng.random() < 0.8 else b.rng.randrange(2**32)
-        study, new = b.put("study.icus", study_of(sites)), b.path("new.icus")
+        site = b.rng.randrange(len(sites))
+        entry = b.rng.choice((b.rng.randrange(ENTRIES), b.rng.randrange(ENTRIES), movement_entry(b.rng.randrange(12), icu2003.LANE_FACTOR)))
+        value = pick(b.rng, entry) if b.rng.random() < 0.8 else b.rng.choice((b.rng.randrange(2**32), 1, 499, 1001))
+        study, new = b.put("study.icut", study_of(sites)), b.path("new.icut")
         if os.path.exists(new):
             os.remove(new)
         words = [study, str(site + 1)] + named_value(entry, value) + [new]
@@ -473,9 +566,27 @@ def amendments(b):
         b.same("change", b.run("icuamend", *words), wanted)
         b.same("new study", os.path.exists(new), answer == (0, 0))
         if answer == (0, 0):
-            b.same("new study's bytes", b.get("new.icus"), study_of(sites))
+            b.same("new study's bytes", b.get("new.icut"), study_of(sites))
         b.same("old study", b.run("icuamend", *words[:-1]), wanted)
     together(b)
+    of_a_study_before(b)
+
+
+def of_a_study_before(b):
+    """A study of before: its changes are printed, whatever they are; with a name to write to nothing is done."""
+    b.put("there.icut", study_of([K2]))
+    b.put("text.txt", table.write_text(K2).encode())
+    for _ in range(60):
+        sites = [of_before(likely(b.rng)) for _ in range(b.rng.randint(1, 4))]
+        site, words = b.rng.randrange(len(sites)), [word for _ in range(b.rng.choice((1, 1, 1, 2, 5))) for word in three_words(b.rng)]
+        study = b.put("before.icus", old_study(sites))
+        b.same("on paper", b.run("icuamend", study, str(site + 1), *words), several_changes(sites[site], words)[0])
+        was = b.held()
+        for new in ("new.icut", "there.icut", "before.icus", "text.txt", "missing/new.icut", ""):
+            said = study.encode() + CONVERT_FIRST
+            b.same("not written", b.run("icuamend", study, str(site + 1), *words, new and b.path(new)), (b"", said))
+            b.same("no such site", b.run("icuamend", study, "9", *words, new and b.path(new)), (b"", said))
+        b.same("all stays", b.held(), was)
 
 
 HOSTILE = (b"EBQ", b"", b"EBT", b"lanes", b"volume", b"-1", b"4s", b"0x10", b"\xff\xfe", b"EBT\n", b"%s%n", b"9" * 30, b"n" * 4096, b"n" * 4097,
@@ -496,7 +607,7 @@ def together(b):
     for count in list(range(1, CHANGES_MOST + 1)) * 4 + [CHANGES_MOST] * 20:
         entries = likely(b.rng) if b.rng.random() < 0.8 else b.rng.choice(junctions.all_junctions())[1]
         words = [word for _ in range(count) for word in three_words(b.rng)]
-        study, new = b.put("many.icus", study_of([entries, junctions.K1])), b.path("new.icus")
+        study, new = b.put("many.icut", study_of([entries, junctions.K1])), b.path("new.icut")
         if os.path.exists(new):
             os.remove(new)
         wanted, after, made = several_changes(entries, words)
@@ -504,14 +615,14 @@ def together(b):
         b.same("several kept", b.run("icuamend", study, "1", *words, new), wanted)
         b.same("several's study", os.path.exists(new), made)
         if made:
-            b.same("several's bytes", b.get("new.icus"), study_of([after, junctions.K1]))
-        b.same("as it was", b.get("many.icus"), study_of([entries, junctions.K1]))
+            b.same("several's bytes", b.get("new.icut"), study_of([after, junctions.K1]))
+        b.same("as it was", b.get("many.icut"), study_of([entries, junctions.K1]))
         if made and wanted[1]:
             stays = study.encode() + b": stays as it was, since not all that was asked for was done: name a new file\n"
             b.same("not over a study", b.run("icuamend", study, "1", *words, study), (b"", wanted[1] + stays))
-            b.same("stays", b.get("many.icus"), study_of([entries, junctions.K1]))
+            b.same("stays", b.get("many.icut"), study_of([entries, junctions.K1]))
     # the longest that can be said
-    study = b.put("long.icus", study_of([junctions.K1]))
+    study = b.put("long.icut", study_of([junctions.K1]))
     words = [b"EBT", b"n" * table.WORD_MOST, b"1"] * CHANGES_MOST
     wanted = several_changes(junctions.K1, words)[0]
     b.same("longest", b.run("icuamend", study, "1", *words), wanted)
@@ -527,10 +638,11 @@ CHANGE = ["EBT", "volume", "450"]
 
 
 def writers(b, new):
-    """Each way in which a study is written to this name, after the study in.icus of K1 and K2 was made."""
-    b.put("in.icus", study_of([junctions.K1, K2]))
+    """Each way in which a study is written to this name, after in.icut of K1 and K2 and the same study of before were made."""
+    b.put("in.icut", study_of([junctions.K1, K2]))
+    b.put("before.icus", old_study([junctions.K1, K2]))
     b.put("k2.txt", table.write_text(K2).encode())
-    return ("icuamend", ["in.icus", "1"] + CHANGE + [new]), ("icustudy", ["make", new, "k2.txt"])
+    return ("icuamend", ["in.icut", "1"] + CHANGE + [new]), ("icustudy", ["convert", "before.icus", new]), ("icustudy", ["make", new, "k2.txt"])
 
 
 def changed():
@@ -538,7 +650,7 @@ def changed():
     before = icu2003.fill(junctions.K1)
     after = list(before)
     assert icu2003.amend(after, table.NAMED[tuple(CHANGE[:2])], int(CHANGE[2])) == (0, 0)
-    return table.change_text(before, after).encode(), study_of([after[:81], K2])
+    return table.change_text(before, after).encode(), study_of([after[:ENTRIES], K2])
 
 
 def refused(b, new, sentence, status=0, **how):
@@ -551,17 +663,18 @@ def refused(b, new, sentence, status=0, **how):
 
 def targets(b):
     """What can stand where a study is to be written."""
-    study = study_of([junctions.K1])
-    for data in (table.write_text(junctions.K1).encode(), b"", b"ICUS", study[:-1], study + b"\0", b"icus" + study[4:], study + study,
-                 b"\0" * 70000, study + b" " * 70000):
+    study, old = study_of([junctions.K1]), old_study([junctions.K1])
+    for data in (table.write_text(junctions.K1).encode(), b"", b"ICUS", b"ICUT", study[:-1], study + b"\0", b"icut" + study[4:], study + study,
+                 b"\0" * 70000, study + b" " * 70000, old[:-1], old + b"\0", b"ICUS" + study[4:], b"ICUT" + old[4:], old + study,
+                 old_file([narrowed(junctions.K1)] * 181), icu2003.open_file([0] * PLACES, junctions.K1 * PLACES)):
         b.put("there", data)
         refused(b, "there", STAYS)
-    for name, text in (("to-study", "in.icus"), ("to-text", "k2.txt"), ("to-nothing", "nowhere"), ("to-itself", "to-itself")):
+    for name, text in (("to-study", "in.icut"), ("to-text", "k2.txt"), ("to-nothing", "nowhere"), ("to-itself", "to-itself")):
         os.symlink(text, b.path(name))
         refused(b, name, IS_LINK)
     os.mkdir(b.path("folder"))
     os.mkfifo(b.path("pipe"))
-    for name in ("folder", "folder/", ".", "pipe", "missing/new.icus", "k2.txt/new.icus", "/proc/x.icus", "", "n" * 250, "./" * 2042 + "new.icus"):
+    for name in ("folder", "folder/", ".", "pipe", "missing/new.icut", "k2.txt/new.icut", "/proc/x.icut", "", "n" * 250, "./" * 2042 + "new.icut"):
         refused(b, name, UNWRITTEN)
     refused(b, "/dev/null", STAYS)
     # the study's name forgotten: the first of three texts stays
@@ -586,29 +699,41 @@ def ended():
 def writes(b):
     """Writes that are done, that fail and that are ended midway."""
     printed, study = changed()
-    for new in ("in.icus", "new.icus"):
+    for new in ("in.icut", "new.icut", "before.icus"):
         refused(b, new, UNWRITTEN, before=limited)
-    for program, words in writers(b, "in.icus"):
+    for program, words in writers(b, "in.icut"):
         was = b.held()
         b.same("ended", b.run_so(-signal.SIGXFSZ, program, words, before=ended)[0], b"")
         now = b.held()
-        b.same("left beside", len(now.pop("in.icus.part0", b"")), 100)
+        b.same("left beside", len(now.pop("in.icut.part0", b"")), 100)
         b.same("all else stays", now, was)
-        os.remove(b.path("in.icus.part0"))
+        os.remove(b.path("in.icut.part0"))
     for left in range(10):
         # files that were left beside stay; the next number is taken
-        (amend, words), _ = writers(b, "in.icus")
+        amend, words = writers(b, "in.icut")[0]
         was = b.held()
         b.same("in place", b.run_so(0, amend, words), (printed, b""))
-        b.same("only the study", b.held(), dict(was, **{"in.icus": study}))
-        b.same("rights", os.stat(b.path("in.icus")).st_mode & 0o777, 0o666 & ~umask())
-        b.put("in.icus.part%d" % left, b"left")
-    refused(b, "in.icus", UNWRITTEN)
-    b.same("a new name", b.run_so(0, amend, words[:-1] + ["other.icus"]), (printed, b""))
-    b.same("its study", b.get("other.icus"), study)
-    for program, words in writers(b, "other.icus"):
-        b.same("again", b.run_so(0, program, words)[1], b"")
-    b.same("made anew", b.get("other.icus"), study_of([K2]))
+        b.same("only the study", b.held(), dict(was, **{"in.icut": study}))
+        b.same("rights", os.stat(b.path("in.icut")).st_mode & 0o777, 0o666 & ~umask())
+        b.put("in.icut.part%d" % left, b"left")
+    refused(b, "in.icut", UNWRITTEN)
+    b.same("a new name", b.run_so(0, amend, words[:-1] + ["other.icut"]), (printed, b""))
+    b.same("its study", b.get("other.icut"), study)
+    over_studies(b, printed, study)
+
+
+def over_studies(b, printed, amended):
+    """Each writer over a good study of either kind, which it replaces; and studies of both kinds converted over themselves."""
+    for there in (study_of([]), old_study([]), study_of([K2] * 165), old_study([K2] * 180)):
+        for (program, words), out, written in zip(writers(b, "other.icut"), (printed, b"", b""),
+                                                  (amended, study_of([junctions.K1, K2]), study_of([K2]))):
+            b.put("other.icut", there)
+            b.same("over a study", b.run_so(0, program, words), (out, b""))
+            b.same("replaced", b.get("other.icut"), written)
+    was = b.held()
+    for name in ("before.icus", "other.icut"):
+        b.same("over itself", b.run_so(0, "icustudy", ["convert", name, name]), (b"", b""))
+        b.same("only the study", b.held(), dict(was, **{"before.icus": study_of([junctions.K1, K2])}))
 
 
 def nobody():
@@ -619,15 +744,100 @@ def nobody():
 
 def protected(b):
     """A study that may not be written, in a folder in which files may be made: it stays."""
-    writers(b, "in.icus")
-    b.put("locked.icus", b.get("in.icus"))
-    os.chmod(b.path("locked.icus"), 0o444)
+    writers(b, "in.icut")
+    b.put("locked.icut", b.get("in.icut"))
+    os.chmod(b.path("locked.icut"), 0o444)
     os.chmod(b.folder, 0o777)
     try:
-        refused(b, "locked.icus", UNWRITTEN, before=nobody)
+        refused(b, "locked.icut", UNWRITTEN, before=nobody)
     except PermissionError:
         pass  # the superuser may write it, and nobody else can reach the programs
 
+
+# ---------------------------------------------------------------- studies of before, converted
+
+TOO_MANY = b": has more than 165 sites, which a study file holds at most: make two of its texts (icustudy show, make)\n"
+
+
+def converting(name, data):
+    """What icustudy convert says of a file of these bytes, None for one that cannot be read; and the file that it writes, if any."""
+    if data is None:
+        return name + b": cannot be read\n", None
+    answer = icu2003.study_check(data)
+    if answer != (0, 0):
+        return name + b": " + table.refusal_text(*answer).encode() + b"\n", None
+    sites = icu2003.study_sites(data)
+    return (name + TOO_MANY, None) if len(sites) > 165 else (b"", study_of(sites))
+
+
+def convert_is(b, what, data):
+    """These bytes, converted to a new name and over a study of either kind: as expected, and all else stays."""
+    b.put("source", data)
+    said, written = converting(b"source", data)
+    for there in (None, study_of([K2]), old_study([junctions.K1])):
+        if os.path.exists(b.path("new.icut")):
+            os.remove(b.path("new.icut"))
+        if there is not None:
+            b.put("new.icut", there)
+        was = b.held()
+        b.same("what is said, " + what, b.run_so(0, "icustudy", ["convert", "source", "new.icut"]), (b"", said))
+        b.same("what is written, " + what, b.held(), was if written is None else dict(was, **{"new.icut": written}))
+
+
+def convert_good(b):
+    """Studies of both kinds: the same sites, and so the same texts, sheets and listing."""
+    for made in (study_of, old_study):
+        for count in (0, 1, 2, 164, 165):
+            convert_is(b, "good", made([of_before(likely(b.rng)) for _ in range(count)]))
+    for _ in range(30):
+        convert_is(b, "any numbers", any_sites(b.rng)[0])
+    b.put("old.icus", old_study([of_before(likely(b.rng)) for _ in range(3)] + [NAMED["cycle 29"]]))
+    b.same("converted", b.run_so(0, "icustudy", ["convert", "old.icus", "new.icut"]), (b"", b""))
+    for before, after in ((["iculist"], []), (["icusheet"], ["1"]), (["icusheet"], ["4"]), (["icustudy", "show"], ["4"]), (["icuamend"], ["2"] + CHANGE)):
+        old, new = (b.run_so(0, before[0], before[1:] + [name] + after) for name in ("old.icus", "new.icut"))
+        b.same("the same of both", [part.replace(b"old.icus", b"new.icut") for part in old], list(new))
+
+
+def convert_bad(b):
+    """Files that are none, damaged ones, and studies with more sites than a file of today holds."""
+    two = [junctions.K1, K2]
+    for data in (b"", b"I", b"ICU", b"ICUS", b"ICUT", b"ICUO" + study_of(two)[4:], table.write_text(K2).encode(), b"\0" * 70000,
+                 study_of(two)[:-1], study_of(two) + b"\0", old_study(two)[:-1], old_study(two) + b"\0",
+                 b"ICUT" + old_study(two)[4:], b"ICUS" + study_of(two)[4:], icu2003.open_file([0] * PLACES, junctions.K1 * PLACES),
+                 old_file([narrowed(K2)] * 181), put(study_of([K2] * 165), 4, 166), study_of([K2] * 165) + b"\0" * 9000):
+        convert_is(b, "bad", data)
+    for count in (166, 167, 180):
+        convert_is(b, "too many", old_study([of_before(likely(b.rng)) for _ in range(count)]))
+    for turn in range(120):
+        convert_is(b, "damaged", damaged(b.rng, (study_of(two), old_study(two))[turn % 2]))
+
+
+def convert_words(b):
+    """What cannot be read; what is wrong with the study is told before what stands in the way of the new one."""
+    b.put("old.icus", old_study([K2]))
+    b.put("text.txt", table.write_text(K2).encode())
+    os.mkdir(b.path("folder"))
+    os.symlink("old.icus", b.path("to-study"))
+    was = b.held()
+    for name in ("nothing", ".", "", "folder", "old.icus/x", "missing/old.icus", "n" * 5000):
+        for new in ("new.icut", "text.txt", "to-study", "missing/new.icut"):
+            said = (name if len(name) < 5000 else "").encode() + b": cannot be read\n"
+            b.same("unread", b.run_so(0, "icustudy", ["convert", name, new]), (b"", said))
+    for new in ("text.txt", "to-study", "missing/new.icut", ""):
+        b.same("no study", b.run_so(0, "icustudy", ["convert", "text.txt", new]), (b"", b"text.txt: R6: this is no study file\n"))
+    for new, said in (("text.txt", STAYS), ("to-study", IS_LINK), ("folder", UNWRITTEN), ("missing/new.icut", UNWRITTEN), ("", UNWRITTEN)):
+        b.same("in the way", b.run_so(0, "icustudy", ["convert", "old.icus", new]), (b"", new.encode() + said))
+    b.same("all stays", b.held(), was)
+    b.same("read by a link", b.run_so(0, "icustudy", ["convert", "to-study", "new.icut"]), (b"", b""))
+    b.same("its study", b.held(), dict(was, **{"new.icut": study_of([K2])}))
+
+
+def convert(b):
+    """icustudy convert: studies of before, of today, damaged ones and such with too many sites; what stands in the way is with `kept`."""
+    each_apart(b, (convert_good, convert_bad, convert_words))
+
+
+# ---------------------------------------------------------------- what asks for no work
 
 def umask():
     mask = os.umask(0)
@@ -637,33 +847,39 @@ def umask():
 
 def outputs(b):
     """Standard output that is full or closed: said by each program, and no file is written."""
-    _, _ = writers(b, "in.icus")
-    for program, words in (("icusheet", ["k2.txt"]), ("icusheet", ["in.icus", "2"]), ("icuamend", ["in.icus", "1"] + CHANGE),
-                           ("icuamend", ["in.icus", "1"] + CHANGE + ["in.icus"]), ("icuamend", ["in.icus", "1"] + CHANGE + ["fresh.icus"]),
-                           ("icustudy", ["show", "in.icus", "1"]), ("icustudy", ["--help"]), ("iculist", ["in.icus"]), ("iculist", ["--version"])):
+    writers(b, "in.icut")
+    for program, words in (("icusheet", ["k2.txt"]), ("icusheet", ["in.icut", "2"]), ("icuamend", ["in.icut", "1"] + CHANGE),
+                           ("icuamend", ["in.icut", "1"] + CHANGE + ["in.icut"]), ("icuamend", ["in.icut", "1"] + CHANGE + ["fresh.icut"]),
+                           ("icuamend", ["before.icus", "1"] + CHANGE), ("icustudy", ["show", "before.icus", "1"]),
+                           ("icustudy", ["show", "in.icut", "1"]), ("icustudy", ["--help"]), ("iculist", ["in.icut"]), ("iculist", ["--version"])):
         was = b.held()
         with open("/dev/full", "wb") as full:
             b.same("full", b.run_so(0, program, words, out=full), (b"", program.encode() + NO_OUTPUT))
         b.same("closed", b.run_so(0, program, words, before=lambda: os.close(1), out=None), (b"", program.encode() + NO_OUTPUT))
         b.same("all stays", b.held(), was)
     # nothing to print: a study is made all the same
-    b.same("made", b.run_so(0, "icustudy", ["make", "made.icus", "k2.txt"], before=lambda: os.close(1), out=None), (b"", b""))
-    b.same("its study", b.get("made.icus"), study_of([K2]))
+    for words, sites in ((["make", "made.icut", "k2.txt"], [K2]), (["convert", "before.icus", "made.icut"], [junctions.K1, K2])):
+        b.same("made", b.run_so(0, "icustudy", words, before=lambda: os.close(1), out=None), (b"", b""))
+        b.same("its study", b.get("made.icut"), study_of(sites))
 
 
 def listed(b):
     """iculist of a file that is named, and of standard input."""
     usage_of = b"usage: iculist "
-    for data in (study_of([junctions.K1, K2]), b"", b"ICUS", b"\0" * 70000):
-        path = b.put("listed.icus", data)
+    bad = [junctions.changed(junctions.K1, {entry: value}) for entry, value in ((CYCLE, 29), (movement_entry(11, LANES), 7))]
+    whole, before = study_of([junctions.K1, K2] + bad), old_study([junctions.K1, K2] + bad)
+    full = old_study([K2] * 180), study_of([junctions.K1] * 165)
+    for data in (whole, before, b"", b"ICUS", b"ICUT", b"ICU", b"\0" * 70000, b"ICUT" + before[4:], b"ICUS" + whole[4:], whole[:-1], before + b"\0",
+                 *full, full[1] + b"\0", full[1] + b"\0" * 9000, old_file([narrowed(K2)] * 181)):
+        path = b.put("listed.icut", data)
         wanted = icu2003.listing(data).encode(), b""
         b.same("named", b.run("iculist", path), wanted)
         with open(path, "rb") as source:
             b.same("standard input", b.run_so(0, "iculist", [], source=source), wanted)
-    for name in ("nothing", ".", "", "listed.icus/x"):
+    for name in ("nothing", ".", "", "listed.icut/x"):
         b.same("unread", b.run_so(0, "iculist", [name]), (b"", name.encode() + b": cannot be read\n"))
     b.same("no input", b.run_so(0, "iculist", [], before=lambda: os.close(0)), (b"", b"iculist: standard input cannot be read\n"))
-    for words in (["listed.icus", "listed.icus"], ["--help", "--help"], ["a"] * 5):
+    for words in (["listed.icut", "listed.icut"], ["--help", "--help"], ["a"] * 5):
         out, said = b.run_so(0, "iculist", words)
         b.same("usage", (out, said.startswith(usage_of)), (b"", True))
 
@@ -784,11 +1000,11 @@ def likely_diamond(rng):
     """A record that is mostly acceptable."""
     west, east = fair(rng), fair(rng)
     if rng.random() < 0.9:
-        east[80] = west[80]
+        east[CYCLE] = west[CYCLE]
     storages = [rng.choice((1, 999, rng.randint(1, 999), rng.randint(1, 60))) for _ in range(4)]
     record = diamonds.record(west, east, storages, rng.choice((0, 60000, rng.randint(0, 60000), rng.randint(0, 20000))))
     if rng.random() < 0.2:
-        record[rng.randrange(162, 167)] = rng.choice((0, 1000, 60001, 2**32 - 1, 999, 60000))
+        record[rng.randrange(STORAGES, TRAVEL + 1)] = rng.choice((0, 1000, 60001, 2**32 - 1, 999, 60000))
     return record
 
 
@@ -797,7 +1013,7 @@ def diamond_typed(b):
     for _ in range(150):
         record = likely_diamond(b.rng)
         files = [(any_title(b.rng) if b.rng.random() < 0.3 else b"") + loosely(b.rng, entries) for entries in icu2003.halves(record)]
-        words = [typed_value(b.rng, kind, value).encode() for kind, value in zip(DIAMOND_KINDS, record[162:])]
+        words = [typed_value(b.rng, kind, value).encode() for kind, value in zip(DIAMOND_KINDS, record[STORAGES:])]
         diamond_is(b, "typed", words, files)
     text = b'title "Elm"\n' + table.write_text(junctions.K1).encode()
     for name in ("a\x1b[31mb.txt", "x\x7f", "new\nline", "Stra\xdfe", "a b", "east: b", "n" * 200):
@@ -826,6 +1042,7 @@ def diamond_wrong_files(b):
     """Damaged texts, study files, any bytes and nothing, in one place or both; the first of them is spoken of."""
     good = [table.brief_text("Book", entries).encode() for entries in icu2003.halves(diamonds.book())]
     bad = [b"", None, study_of([]), study_of([junctions.K1, K2]), study_of([junctions.K1])[:-1], MARK + good[0], b"x" * 66000, b" " * 65536,
+           old_study([]), old_study([junctions.K1, K2]), b"ICUT" + old_study([K2])[4:], b"EBT lane-factor 0.4", b"EBT lane-factor 2s",
            b"junction cycle 29", b"EBL volume 5", b"EBT lanes 1\nEBL volume 5\nEB shared-lane 1 ", b"EB shared-lane 1", good[0] + b"lanes", b"title x",
            b" " * 200000, bytes(range(256))]
     words = [b"19", b"19", b"26", b"26", b"7.1s"]
@@ -908,7 +1125,7 @@ def put_texts(b):
 
 def fresh_study(b, sites=()):
     """A study s.icuo of these (office, entries)."""
-    owners, blocks = [0] * 180, [0] * 14580
+    owners, blocks = [0] * PLACES, [0] * ENTRIES * PLACES
     for office, entries in sites:
         assert icu2003.open_add(owners, blocks, office, entries)[0] == (0, 0)
     b.put("s.icuo", icu2003.open_file(owners, blocks))
@@ -986,7 +1203,7 @@ def site_word(rng, owners, office):
     own = [place for place, owner in enumerate(owners) if owner == office]
     if own and rng.random() < 0.75:
         return b"%d" % (rng.choice(own) + 1)
-    return rng.choice((b"%d" % rng.randint(1, 180), b"0", b"181", b"4294967295", b"%03d" % rng.randint(1, 180), rng.choice(STRANGE_NUMBERS)))
+    return rng.choice((b"%d" % rng.randint(1, 165), b"0", b"166", b"180", b"4294967295", b"%03d" % rng.randint(1, 165), rng.choice(STRANGE_NUMBERS)))
 
 
 def office_step(b, office):
@@ -1006,8 +1223,8 @@ def office_step(b, office):
 def office_runs(b):
     """Three offices by turns, in studies of any history: after each call every number of the study is as it should be."""
     for history in range(14):
-        numbers = [1, 2, 3] if history % 2 else [b.rng.randrange(1, 2**32), 2**32 - 1, 180]
-        blocks = [fair(b.rng) for _ in range(3)] + [junctions.K1, likely(b.rng), [0] * 81, [b.rng.randrange(2**32) for _ in range(81)]]
+        numbers = [1, 2, 3] if history % 2 else [b.rng.randrange(1, 2**32), 2**32 - 1, 165]
+        blocks = [fair(b.rng) for _ in range(3)] + [junctions.K1, likely(b.rng), [0] * ENTRIES, [b.rng.randrange(2**32) for _ in range(ENTRIES)]]
         if history < 4:
             fresh_study(b)
         else:
@@ -1019,29 +1236,31 @@ def office_runs(b):
 def office_full(b):
     """The last free places, and none: a bad text is told of before a full study."""
     put_texts(b)
-    owners, blocks = [7] * 180, junctions.K1 * 180
-    for free in ([0], [179], [17, 178], []):
+    owners, blocks = [7] * PLACES, junctions.K1 * PLACES
+    for free in ([0], [164], [17, 163], []):
         b.put("s.icuo", icu2003.open_file([0 if place in free else owner for place, owner in enumerate(owners)], blocks))
         b.put("bad.txt", b"junction cycle 29")
         for text in ("bad.txt", "k2.txt", "k1.txt", "nothing", "bad.txt", "k1.txt"):
             office_is(b, "nearly full", ["s.icuo", "4294967295", "add", text])
-        for site in (b"1", b"18", b"179", b"180"):
+        for site in (b"1", b"18", b"164", b"165", b"166"):
             office_is(b, "what was added", ["s.icuo", "4294967295", "read", site])
 
 
 def office_studies(b):
     """Files that are no open study, and studies of any numbers."""
     put_texts(b)
-    whole = icu2003.open_file([1, 0, 2] + [0] * 177, junctions.K1 * 180)
-    for data in (b"", b"ICUO", whole[:-1], whole + b"\0", whole[:4], b"ICUS" + whole[4:], b"icuo" + whole[4:], MARK + whole, whole[4:], whole * 2,
-                 study_of([junctions.K1]), study_of([junctions.K1] * 180), b"\0" * len(whole), b.get("k1.txt"), b"x" * 200000):
+    whole = icu2003.open_file([1, 0, 2] + [0] * 162, junctions.K1 * PLACES)
+    before = icu2003.open_file([1, 0, 2] + [0] * 177, narrowed(junctions.K1) * 180)
+    for data in (b"", b"ICUO", whole[:-1], whole + b"\0", whole[:4], b"ICUT" + whole[4:], b"icuo" + whole[4:], MARK + whole, whole[4:], whole * 2,
+                 study_of([junctions.K1]), study_of([junctions.K1] * 165), old_study([junctions.K1] * 180), before,
+                 b"\0" * len(whole), b.get("k1.txt"), b"x" * 200000):
         b.put("s.icuo", data)
         for words in (["1", "add", "k1.txt"], ["1", "add", "nothing"], ["1", "amend", "1", "EBL", "volume", "90"], ["1", "read", "1"], ["0", "read", "1"]):
             office_is(b, "no open study", ["s.icuo"] + words)
     for _ in range(60):
         data = bytearray(whole)
         for _ in range(b.rng.choice((1, 1, 3))):
-            at = b.rng.choice((0, 4 * b.rng.randrange(1, 4), 724 + 4 * b.rng.randrange(81), b.rng.randrange(len(data) - 4)))
+            at = b.rng.choice((0, 4 * b.rng.randrange(1, 4), 4 + 4 * PLACES + 4 * b.rng.randrange(ENTRIES), b.rng.randrange(len(data) - 4)))
             data[at:at + 4] = b.rng.choice((0, 1, 2, 7, 2**32 - 1, b.rng.randrange(2**32), b.rng.randrange(300))).to_bytes(4, "little")
         b.put("s.icuo", bytes(data))
         for words in (["1", "read", "1"], ["2", "read", "3"], ["1", "amend", "1", "EBT", "volume", "450"], ["2", "add", "k2.txt"], ["2", "read", "2"]):
@@ -1056,7 +1275,7 @@ def office_words(b):
     for word in STRANGE_NUMBERS + (b"1", b"01", b"4294967295"):
         for rest in (["add", "nothing"], ["read", "1"], ["amend", "1"] + change, ["amend", "2", "EBQ", "volumes", "x"]):
             office_is(b, "office", ["s.icuo", word] + rest)
-    for word in STRANGE_NUMBERS + (b"1", b"2", b"3", b"001", b"180", b"181", b"4294967295", b"all"):
+    for word in STRANGE_NUMBERS + (b"1", b"2", b"3", b"001", b"165", b"166", b"180", b"4294967295", b"all"):
         for rest in (["read", word], ["amend", word] + change, ["amend", word, "EBQ", "volume", "1"], ["amend", word, "EBT", "lanes", "0"]):
             office_is(b, "site", ["s.icuo", "1"] + rest)
     for words, _ in SAID_OF_CHANGES:
@@ -1072,6 +1291,7 @@ def office_texts(b):
     fresh_study(b)
     texts = [table.write_text(junctions.K1).encode(), offices.sample_text("k2")]
     for data in (b"", study_of([]), study_of([junctions.K1, K2]), study_of([K2])[:-1], MARK + texts[1], b"x" * 66000, b" " * 65536, b" " * 200000,
+                 old_study([]), old_study([junctions.K1, K2]), b"EBT lanes 2 lane-factor 0.87", b"EBT lane-factor 0.4", b"EBT lane-factor 1s",
                  b"junction cycle 29", b"EBL volume 5", b"EB shared-lane 1", texts[0] + b"lanes", b"title x", bytes(range(256))):
         b.put("t.txt", data)
         for study in ("s.icuo", "k1.txt"):
@@ -1155,14 +1375,14 @@ def office_race(b):
         fresh_study(b)
         runs = [subprocess.Popen([os.path.join(BIN, "icuoffice"), "s.icuo", str(office), "add", "k1.txt"], stdout=subprocess.PIPE,
                                  stderr=subprocess.PIPE, cwd=b.folder) for office in range(1, 9)]
-        got, wanted = [run.communicate(timeout=60) for run in runs], [0] * 180
+        got, wanted = [run.communicate(timeout=60) for run in runs], [0] * PLACES
         for office, (out, said) in enumerate(got, 1):
             b.same("said", said, b"" if out else b"s.icuo.lock: " + offices.LOCKED + b"\n")
             if out:
                 wanted[int(out.split()[1]) - 1] = office
         count = sum(1 for out, _ in got if out)
-        b.same("sites in turn", [bool(owner) for owner in wanted], [True] * count + [False] * (180 - count))
-        b.same("study", differing(b.get("s.icuo"), icu2003.open_file(wanted, junctions.K1 * count + [0] * 81 * (180 - count))), [])
+        b.same("sites in turn", [bool(owner) for owner in wanted], [True] * count + [False] * (PLACES - count))
+        b.same("study", differing(b.get("s.icuo"), icu2003.open_file(wanted, junctions.K1 * count + [0] * ENTRIES * (PLACES - count))), [])
         b.same("no lock", "s.icuo.lock" in os.listdir(b.folder), False)
 
 
@@ -1173,7 +1393,7 @@ def office(b):
 
 
 PARTS = {"usage": usage, "samples": samples, "junctions": named, "runs": runs, "typed": typed, "damaged": damaged_texts, "studies": studies,
-         "amendments": amendments, "kept": kept, "diamond": diamond, "office": office}
+         "amendments": amendments, "convert": convert, "kept": kept, "diamond": diamond, "office": office}
 
 
 def main(part):

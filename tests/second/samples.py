@@ -1,8 +1,8 @@
-"""The sample study and the listing expected of it.
+"""The sample study, as a file of before and as one of today, and the listing expected of both.
 
     python3 tests/second/samples.py OUTDIR
 
-writes OUTDIR/study.icus and OUTDIR/study.txt.
+writes OUTDIR/study.icus, OUTDIR/study.icut, which is the first converted, and OUTDIR/study.txt.
 """
 
 import os
@@ -12,29 +12,25 @@ sys.dont_write_bytecode = True  # leave no cache beside the sources
 
 import icu2003
 import junctions
+import studies
 
 
 def sites():
     """The rules' own junctions, the book's two examples, and one whose cycle is refused."""
     named = junctions.k_junctions() + junctions.book_examples()
-    return [entries for _, entries in named] + [junctions.changed(junctions.K1, {80: 29})]
-
-
-def study(blocks):
-    """The bytes of a study file of these sites."""
-    out = bytearray(icu2003.block_start(len(blocks), len(blocks)))
-    answer = icu2003.study_write([x for block in blocks for x in block], out)
-    assert answer == (0, 0), answer
-    return bytes(out)
+    return [entries for _, entries in named] + [junctions.changed(junctions.K1, {icu2003.CYCLE: 29})]
 
 
 def main(outdir):
-    data = study(sites())
+    old = studies.old_study(sites())
+    new = icu2003.study_file(icu2003.study_sites(old))
+    assert icu2003.listing(old) == icu2003.listing(new)
     os.makedirs(outdir, exist_ok=True)
-    with open(os.path.join(outdir, "study.icus"), "wb") as f:
-        f.write(data)
+    for name, data in (("study.icus", old), ("study.icut", new)):
+        with open(os.path.join(outdir, name), "wb") as f:
+            f.write(data)
     with open(os.path.join(outdir, "study.txt"), "w", newline="\n") as f:
-        f.write(icu2003.listing(data))
+        f.write(icu2003.listing(old))
 
 
 if __name__ == "__main__":

@@ -18,8 +18,10 @@ import diamonds
 import icu2003
 import junctions
 import offices
+import samples
+import studies
 import table
-from icu2003 import BLANK, amend, beside, cell, decay, fill, judge, letter, listing, reach
+from icu2003 import BLANK, amend, beside, cell, decay, fill, judge, letter, listing, reach, widened
 
 EB, WB, NB, SB = range(4)
 counts = {"passed": 0, "failed": 0}
@@ -57,16 +59,16 @@ def check_k1_k2():
     for a in range(4):
         check("K1 flows", lines(sheet, a, 5, 6), [18050, 19000])
         check("K1 left and through", lines(sheet, a, 13, 16, 14, 17), [6649, 10649, 25264, 29264])
-    check("K1 pairs", (sheet[193], sheet[197]), (39913, 39913))
-    check("K1 required, ICU, letter", sheet[206:], [79826, 666, 2])
-    check("K1 picks", (sheet[196], sheet[200]), (0, 0))
+    check("K1 pairs", (sheet[205], sheet[209]), (39913, 39913))
+    check("K1 required, ICU, letter", sheet[218:], [79826, 666, 2])
+    check("K1 picks", (sheet[208], sheet[212]), (0, 0))
     sheet = sheet_of("K2")
     for a in range(4):
         check("K2 lines", lines(sheet, a, 4, 6, 20, 21, 22, 23),
               [9603, 18245, 2000, 29455, 13132, 45690])
-    for at in (193, 197):
+    for at in (205, 209):
         check("K2 pair", sheet[at:at + 4], [BLANK, 49690, 73772, 1])
-    check("K2 combined, required, ICU, letter", sheet[205:], [99380, 99380, 829, 4])
+    check("K2 combined, required, ICU, letter", sheet[217:], [99380, 99380, 829, 4])
 
 
 def check_k3_to_k10():
@@ -74,7 +76,7 @@ def check_k3_to_k10():
     for a in range(4):
         check("K3 F, through", lines(sheet_of("K3"), a, 12, 17), [8647, 42007])
     sheet = sheet_of("K4")
-    check("K4 ICU, letter, picks", sheet[207:] + [sheet[196], sheet[200]], [0, 0, 0, 0])
+    check("K4 ICU, letter, picks", sheet[219:] + [sheet[208], sheet[212]], [0, 0, 0, 0])
     check("K5 letter", letter(550), 0)
     check("K6 letter", letter(551), 1)
     check("K7 line 24", lines(sheet_of("K7"), EB, 24), [25264])
@@ -89,9 +91,10 @@ def check_k3_to_k10():
 
 
 def check_listing():
-    bad = junctions.changed(junctions.K1, {80: 29})
-    check("listing", listing(study(junctions.K1, bad)), "1 666 C PP\n2 R3 80\n")
-    check("listing of no sites", listing(b"ICUS\0\0\0\0"), "")
+    bad = junctions.changed(junctions.K1, {92: 29})
+    check("listing", listing(study(junctions.K1, bad)), "1 666 C PP\n2 R3 92\n")
+    check("listing of a file of before", listing(studies.old_study([junctions.K1, bad])), "1 666 C PP\n2 R3 92\n")
+    check("listing of no sites", (listing(b"ICUT\0\0\0\0"), listing(b"ICUS\0\0\0\0")), ("", ""))
     check("listing of a bad file", listing(b"XY"), "file R6 2\n")
     check("listing of picks", listing(study(NAMED["K2"], NAMED["split picked"])),
           "1 829 E MM\n2 786 D SP\n")
@@ -106,46 +109,47 @@ def check_letters():
 def check_layout():
     entries = NAMED["book example 2"]
     sheet = fill(entries)
-    check("sheet size", len(sheet), 209)
-    check("entries first", sheet[:81], entries)
-    check("volumes of WB", sheet[81 + 28:81 + 28 + 3], [250, 700, 0])
-    check("corners", (cell(0, 1), cell(3, 28)), (81, 192))
+    check("sheet size", len(sheet), 221)
+    check("entries first", sheet[:93], entries)
+    check("volumes of WB", sheet[93 + 28:93 + 28 + 3], [250, 700, 0])
+    check("corners", (cell(0, 1), cell(3, 28)), (93, 204))
+    check("entries of WBT and NB", entries[24:30] + entries[82:87] + entries[92:], [2, 600, 1900, 4000, 4000, 0, 0, 20, 1, 16000, 0, 120])
     text = junctions.expected(1, entries).split("\n")
     check("text", [len(row.split()) for row in text], [2, 28, 28, 28, 28, 4, 4, 8, 0])
-    check("text of a refused one", junctions.expected(7, NAMED["cycle 29"]), "junction 7\nR3 80\n")
+    check("text of a refused one", junctions.expected(7, NAMED["cycle 29"]), "junction 7\nR3 92\n")
 
 
 # ---------------------------------------------------------------- what the named junctions show
 
 def check_book_examples():
     sheet = sheet_of("book example 1")
-    check("example 1", sheet[201:], [66525, 68180, 0, 0, 98644, 98644, 823, 4])
+    check("example 1", sheet[213:], [66525, 68180, 0, 0, 98644, 98644, 823, 4])
     check("example 1 permitted", lines(sheet, NB, 26) + lines(sheet, SB, 26), [46100, 44445])
     sheet = sheet_of("book example 2")
-    check("example 2", sheet[201:], [73946, 0, 0, 0, 95146, 95146, 793, 3])
+    check("example 2", sheet[213:], [73946, 0, 0, 0, 95146, 95146, 793, 3])
 
 
 def check_named():
-    check("at most what the program reads", len(junctions.all_junctions()) <= 65536 // icu2003.BLOCK, True)
+    check("at most what the program reads", len(junctions.all_junctions()) <= 65536 // 372, True)
     for name, at, wanted in (
-            ("lefts only, no through lane", 196, 1), ("permitted ties with split", 196, 1),
-            ("permitted picked, by option B and by option A", 196, 1),
-            ("permitted picked, by option B and by option A", 200, 1),
-            ("split picked", 196, 2), ("rights across split pairs", 200, 2),
-            ("ICU 550 exactly", 207, 550), ("one millisecond over 550", 207, 551),
-            ("rights across permitted and protected pairs", 200, 1)):
+            ("lefts only, no through lane", 208, 1), ("permitted ties with split", 208, 1),
+            ("permitted picked, by option B and by option A", 208, 1),
+            ("permitted picked, by option B and by option A", 212, 1),
+            ("split picked", 208, 2), ("rights across split pairs", 212, 2),
+            ("ICU 550 exactly", 219, 550), ("one millisecond over 550", 219, 551),
+            ("rights across permitted and protected pairs", 212, 1)):
         check(name, sheet_of(name)[at], wanted)
     tie = sheet_of("protected ties with permitted and split")
-    check("three tie", tie[193:197], [35579, 35579, 35579, 0])
+    check("three tie", tie[205:209], [35579, 35579, 35579, 0])
     tie = sheet_of("protected ties with split")
-    check("two tie", (tie[193] == tie[195], tie[194], tie[196]), (True, BLANK, 0))
+    check("two tie", (tie[205] == tie[207], tie[206], tie[208]), (True, BLANK, 0))
     tie = sheet_of("permitted ties with split")
-    check("last two tie", (tie[193], tie[194] == tie[195]), (BLANK, True))
+    check("last two tie", (tie[205], tie[206] == tie[207]), (BLANK, True))
     right = sheet_of("a right total decides")
-    check("right decides", (right[201] == right[206], right[205] < right[206]), (True, True))
+    check("right decides", (right[213] == right[218], right[217] < right[218]), (True, True))
     check("longest line 23", lines(sheet_of("longest option A"), EB, 23), [179418306])
     full = sheet_of("largest volumes in single lanes, slowest flow")
-    check("largest split", full[195], 15466858)
+    check("largest split", full[207], 15466858)
     check("E under 10,000", lines(sheet_of(
         "all lefts, both single: a left worth less than a through"), EB, 21)[0] < 10000, True)
     check("G without right volume", [x > 0 for x in lines(sheet_of(
@@ -170,7 +174,7 @@ def check_bus_gates():
     gate = sheet_of("bus gate: across K1's street")
     check("the engineers' gate", lines(gate, NB, 2, 4, 6, 8, 9, 14, 17, 19, 20, 21, 22, 23, 26, 28),
           [260, 9656, 9656, 9735, 9500, 32312, 36312, 260, 3462, 20107, 7152, 43625, 47625, 36312])
-    check("the engineers' gate, totals", gate[193:], [39913, BLANK, 58528, 0, BLANK, 47625, 72624, 1, 0, 0, 0, 0, 87538, 87538, 730, 2])
+    check("the engineers' gate, totals", gate[205:], [39913, BLANK, 58528, 0, BLANK, 47625, 72624, 1, 0, 0, 0, 0, 87538, 87538, 730, 2])
     for name, a, own in (("59 lefts in a lane of their own", EB, [59, 300000, 316]), ("59 lefts in a lane of their own", NB, [59, 300000, 317]),
                          ("lefts in a lane of their own against a single lane", EB, [150, 15895, 5994])):
         check("own sA: " + name, beside(NAMED["bus gate: " + name])[5 * a:5 * a + 3], own)
@@ -190,10 +194,76 @@ def with_a_tenth(entries):
     sheet, found = fill(entries), set()
     for a in range(4):
         found |= {k for k in (5, 6, 7, 8, 9, 22) if lines(sheet, a, k)[0] % 10 > 0}
-        n, s = entries[15 * a + 5], lines(sheet, a, 6)[0]
-        found |= {"sB"} if entries[60 + 5 * a] and s * (n - 1) % n > 0 and s * (n - 1) // n % 10 > 0 else set()
+        n, s = entries[18 * a + 6], lines(sheet, a, 6)[0]
+        found |= {"sB"} if entries[72 + 5 * a] and s * (n - 1) % n > 0 and s * (n - 1) // n % 10 > 0 else set()
         found |= {"own sA"} if beside(entries)[5 * a + 2] % 10 > 0 else set()
     return found
+
+
+def check_measured():
+    """Measured lane factors: of one lane and of more, of a shared lane's lefts, of movements without lanes."""
+    for name, a, which, wanted in (
+            # 1,900 and a factor of 500: half the flow of a lane, though the table would leave it
+            ("one lane for each movement, at 0.5", EB, (5, 6, 7, 8, 9, 13, 14, 15), [9025, 9500, 8075, 9500, 9025, 7845, 50527, 17833]),
+            # 1,900·2 and 930, 870, 790; the table's 971, 952, 885 across
+            ("two lanes for each movement", EB, (5, 6, 7, 8, 9), [33573, 33060, 25517, 33060, 33573]),
+            ("two lanes for each movement", WB, (5, 6, 7, 8, 9), [35053, 36176, 28585, 36176, 35053]),
+            ("four through lanes all used alike", EB, (5, 6, 8), [18050, 75582, 75582]),
+            ("a right lane, and its total decides", EB, (5, 6, 7), [18050, 19000, 11305]),
+            ("lefts and rights of three lanes, the table for the throughs", NB, (5, 6, 7), [52579, 51756, 48401]),
+            ("some single lanes", EB, (5, 6, 9), [10830, 19000, 10830]), ("some single lanes", WB, (5, 6, 8, 9), [18050, 11400, 11400, 18050]),
+            # the lefts of a shared lane by themselves: 1,900·600·9,500/10⁶, or the table's 1,000 where only the throughs were counted
+            ("lefts of a shared lane by their own factor", EB, (5, 6, 8, 9, 24, 27), [0, 16298, 17100, 10830, 41241, 33241]),
+            ("lefts of a shared lane by their own factor", SB, (5, 6, 8, 9, 24, 27), [0, 10865, 11400, 18050, 27945, 35343]),
+            ("two shared lanes", EB, (6, 8, 9), [32704, 32901, 9927]),
+            ("single against single", EB, (6, 8, 9, 22), [14596, 14630, 9025, 10506]), ("single against single", WB, (6, 8, 9), [12771, 12801, 18050]),
+            ("the engineers' street", EB, (5, 6, 8, 9), [18050, 33060, 33060, 18050]),
+            ("the engineers' street", NB, (6, 8, 9, 24, 26), [17217, 17373, 14440, 24621, 28621])):
+        check("measured: " + name, lines(sheet_of("measured: " + name), a, *which), wanted)
+    check("measured: own sA", beside(NAMED["measured: one lane for each movement, at 0.5"])[:3], [59, 300000, 300])
+    check("the engineers' street, totals", sheet_of("measured: the engineers' street")[205:],
+          [43688, BLANK, 60556, 0, BLANK, 28621, 34464, 1, 0, 0, 0, 0, 72309, 72309, 603, 1])
+    check("longest measured line 23", lines(sheet_of("measured: longest option A"), EB, 23), [358827261])
+    idle = NAMED["measured: movements without lanes"]
+    check("factors without lanes", fill(idle)[93:], fill(table_alone(idle))[93:])
+    right = sheet_of("measured: a right lane, and its total decides")
+    check("right decides by its factor", (right[213] == right[218], right[217] < right[218]), (True, True))
+
+
+def check_factors(rounds):
+    """One lane factor at a time: at the table's own value nothing changes, and every line goes by a factor that is another."""
+    rng, moved = random.Random(500), set()
+    for _ in range(max(rounds, 600) // 2):
+        entries, m = random_entries(rng), rng.randrange(12)
+        lanes = entries[6 * m] or m % 3 == 0 and entries[72 + 5 * (m // 3)]
+        typed = icu2003.table_factor(m % 3, lanes) if lanes else rng.randint(500, 1000)
+        plain, same = (fill(junctions.changed(entries, {6 * m + 5: factor})) for factor in (0, typed))
+        check("the table's own factor", same[93:], plain[93:])
+        other = fill(junctions.changed(entries, {6 * m + 5: rng.randint(500, 999)}))
+        differing = {i for i in range(93, 221) if other[i] != plain[i]}
+        check("within the reach of lanes", differing <= set(reach(6 * m)), True)
+        moved |= {(m % 3, "one lane" if lanes == 1 else "lanes", (i - 93) % 28 + 1) for i in differing if i < 205}
+    for group, own in ((0, {5, 9, 13, 16, 23, 24, 27}), (1, {6, 8, 14, 17, 22, 23, 24, 27}), (2, {7, 15, 18})):
+        for count in ("one lane", "lanes"):
+            check("lines of %s, %s" % ("LTR"[group], count), own - {line for g, n, line in moved if (g, n) == (group, count)}, set())
+
+
+def check_rows():
+    """A page has 71 rows of 79 columns, and a row of lane factors for each group."""
+    for name, entries in NAMED.items():
+        if judge(entries) == (0, 0):
+            check("page of " + name, [len(row) for row in table.sheet_text(fill(entries)).split("\n")], [79] * 71 + [0])
+    page = table.sheet_text(sheet_of("measured: the engineers' street")).split("\n")
+    for at, row in ((6, "L  lane factor                 15 F      table      table      0.800      table"),
+                    (12, "T  lane factor                 15 F      0.870      0.940      0.950      table"),
+                    (18, "R  lane factor                 15 F      table      table      table      table")):
+        check("row %d" % at, page[at], row)
+    check("factor of 1", table.shown("F", 1000), "1.000")
+    before, after = (fill(junctions.changed(junctions.K1, {23: factor})) for factor in (0, 905))
+    row = "L  lane factor                 15 F         WB      table      0.905           "
+    check("changed factor", table.change_text(before, after).split("\n")[1], row)
+    check("text of a movement", table.write_text(junctions.K1).split("\n")[0],
+          "EBL lanes 1 volume 100 ideal-flow 1900 lost-time 4s minimum-green 4s lane-factor 0")
 
 
 def check_closed_legs():
@@ -202,12 +272,12 @@ def check_closed_legs():
             ("a closed leg, a button", 21836, [35809, 21973, 35809, 1], 61886)):
         sheet = sheet_of(name)
         check(name, lines(sheet, SB, 14, 17, 25, 26, 27, 28), [0, crossing, 0, crossing, 0, crossing])
-        check(name + ", pair", sheet[197:201], pair)
-        check(name + ", required", sheet[206], required)
-        for entry in (76, 50):  # without pedestrians, without through lanes
+        check(name + ", pair", sheet[209:213], pair)
+        check(name + ", required", sheet[218], required)
+        for entry in (88, 60):  # without pedestrians, without through lanes
             sheet = fill(junctions.changed(NAMED[name], {entry: 0}))
             check(name + ", nobody", lines(sheet, SB, 17, 26, 28), [0, 0, 0])
-            check(name + ", pair of nobody", sheet[197:201], [13973, 21973, 13973, 0])
+            check(name + ", pair of nobody", sheet[209:213], [13973, 21973, 13973, 0])
     sheet = sheet_of("pedestrians where nobody drives, without time or lanes")
     check("no time at all", lines(sheet, EB, 17, 26, 28), [0, 0, 0])
     check("no through lane", lines(sheet, WB, 17, 26, 28), [0, 0, 0])
@@ -218,20 +288,29 @@ def check_closed_legs():
 
 
 def check_refusals():
-    check("80 entries", judge(junctions.K1[:80]), (1, 0))
+    for size in (0, 81, 92):
+        check("%d entries" % size, judge(junctions.K1[:size]), (1, 0))
+    check("94 entries", judge(junctions.K1 + [0]), (1, 0))
     for name, wanted in (
-            ("cycle 29", (3, 80)), ("two entries out of range, bad shared lanes besides", (3, 3)),
-            ("a flow left at 0 where there is no lane", (3, 12)),
+            ("cycle 29", (3, 92)), ("two entries out of range, bad shared lanes besides", (3, 3)),
+            ("a flow left at 0 where there is no lane", (3, 14)),
             ("shared lane beside a left lane", (4, 1)),
             ("shared lane without a through lane, volumes without lanes", (4, 3)),
             ("lefts without a lane", (5, 3)), ("throughs without a lane", (5, 7)),
-            ("rights without a lane", (5, 8))):
+            ("rights without a lane", (5, 8)), ("measured: a lane factor of 1 thousandth", (3, 5)), ("measured: a lane factor of 499", (3, 29)),
+            ("measured: a lane factor of 1,001", (3, 41)), ("measured: 499 without a lane", (3, 71)), ("measured: 971 typed for 0.971", (3, 11)),
+            ("measured: two lane factors out of range, a lane and the cycle besides", (3, 23))):
         check(name, judge(NAMED[name]), wanted)
-    for entry in range(81):
+    for entry in range(93):
         least, largest = icu2003.limits(entry)
         for value in {least - 1, largest + 1, BLANK} - {-1}:
             entries = junctions.changed(junctions.K1, {entry: value})
             check("entry %d as %d" % (entry, value), judge(entries), (3, entry))
+    for entry in range(5, 72, 6):
+        for value in (1, 250, 498, 1002, 971000):
+            check("lane factor %d as %d" % (entry, value), judge(junctions.changed(junctions.K1, {entry: value})), (3, entry))
+        for value in (0, 500, 501, 971, 1000):
+            check("lane factor %d as %d" % (entry, value), judge(junctions.changed(junctions.K1, {entry: value})), (0, 0))
 
 
 # ---------------------------------------------------------------- the decay number
@@ -254,39 +333,51 @@ def pick_volume(rng):
                        rng.randint(0, 900), rng.randint(0, 9999)))
 
 
+def pick_factor(rng):
+    return rng.choice((0, 0, 500, 501, 885, 908, 952, 971, 1000, rng.randint(500, 1000)))
+
+
 def pick_value(rng, entry):
     """A value in range, more often than not near an end or in everyday use."""
     least, largest = icu2003.limits(entry)
-    if entry < 60 and entry % 5 == 0:
+    if entry < 72 and entry % 6 == 0:
         return rng.choice((0, 0, 1, 1, 1, 2, 2, 3, 4, 6))
-    if entry < 60 and entry % 5 == 1:
+    if entry < 72 and entry % 6 == 1:
         return pick_volume(rng)
+    if entry < 72 and entry % 6 == 5:
+        return pick_factor(rng)
     return rng.choice((least, largest, rng.randint(least, largest),
                        min(largest, max(least, rng.choice((1900, 4000, 60, 120))))))
 
 
 def random_entries(rng):
     """Acceptable entries: what would be refused is taken away again."""
-    entries = [pick_value(rng, entry) for entry in range(81)]
+    entries = [pick_value(rng, entry) for entry in range(93)]
     for a in range(4):
-        at, shared = 15 * a, 60 + 5 * a
+        at, shared = 18 * a, 72 + 5 * a
         if rng.random() < 0.25:  # a lane as singles have it
-            entries[at], entries[at + 5], entries[at + 10], entries[shared] = 0, 1, 0, 1
-        if entries[at] > 0 or entries[at + 5] == 0:
+            entries[at], entries[at + 6], entries[at + 12], entries[shared] = 0, 1, 0, 1
+        if entries[at] > 0 or entries[at + 6] == 0:
             entries[shared] = 0
         if entries[at] == 0 and entries[shared] == 0:
             entries[at + 1] = 0
-        if entries[at + 5] == 0:
-            entries[at + 6] = 0
-            if entries[at + 10] == 0:
-                entries[at + 11] = 0
-    return entries
+        if entries[at + 6] == 0:
+            entries[at + 7] = 0
+            if entries[at + 12] == 0:
+                entries[at + 13] = 0
+    return entries if rng.random() < 0.8 else table_alone(entries)
+
+
+def table_alone(entries):
+    """The entries with the table's lane factor for each movement."""
+    return junctions.changed(entries, {entry: 0 for entry in range(5, 72, 6)})
 
 
 # ---------------------------------------------------------------- the lines spelled again
 #
 # The same sheet from the book's shapes of the formulas: fractions, seconds, vehicles per hour
 # and shares, rounded where the rules round. None stands for BLANK. Nothing is taken from icu2003.
+# It takes the 93 entries, and the 81 of a site before lane factors were measured, as they stood then.
 
 MS, SHARE, BILLIONTH = Fraction(1, 1000), Fraction(1, 10000), Fraction(1, 10**9)
 TENTH = Fraction(1, 10)  # flows are cut to tenths of a vehicle per hour
@@ -315,20 +406,27 @@ def again_decay(m):
 
 
 def again_read(e, a):
-    """An approach's entries under the book's names, times in seconds."""
-    x = {"CL": e[80]}
+    """An approach's entries under the book's names, times in seconds; its fLU where they were measured."""
+    step, own = (6, 72) if len(e) == 93 else (5, 60)
+    x = {"CL": e[-1]}
     for g, name in enumerate("LTR"):
-        x["n" + name], x["v" + name], x["i" + name], lost, least = e[15 * a + 5 * g:][:5]
+        x["n" + name], x["v" + name], x["i" + name], lost, least, *measured = e[step * (3 * a + g):][:step]
         x["tL" + name], x["tMin" + name] = lost * MS, least * MS
-    x["shared"], x["ped"], x["button"], x["tPed"], x["free"] = e[60 + 5 * a:65 + 5 * a]
+        if any(measured):
+            x["fLU" + name] = measured[0] * MS
+    x["shared"], x["ped"], x["button"], x["tPed"], x["free"] = e[own + 5 * a:own + 5 * a + 5]
     x["tPed"] *= MS
     return x
 
 
+def again_use(x, g, n):
+    """fLU of n lanes of a group: as it was measured, else Table 5-2."""
+    table_5_2 = {"L": "1 .971", "T": "1 .952 .908", "R": "1 .885"}[g].split()
+    return x["fLU" + g] if "fLU" + g in x else Fraction((table_5_2 + table_5_2[-1:] * 6)[n - 1])
+
+
 def again_flows(x):
     """Lines 1 to 12."""
-    f_lu = {"L": [0, 1, ".971"], "T": [0, 1, ".952", ".908"], "R": [0, 1, ".885"]}
-    f_lu = {g: [Fraction(f) for f in row] + [Fraction(row[-1])] * 6 for g, row in f_lu.items()}
     x["vCL"] = 0 if x["shared"] else x["vL"]
     x["vCR"] = x["vR"] if x["nR"] else 0
     x["vCT"] = x["vL"] + x["vT"] + x["vR"] - x["vCL"] - x["vCR"]
@@ -338,10 +436,11 @@ def again_flows(x):
     x["fT"] = down_to(rights(x["vCT"]) * lefts(x["vCT"]), SHARE)
     factors = {"L": Fraction(95, 100), "T": x["fT"], "R": Fraction(85, 100)}
     for g, f in factors.items():
-        x["s" + g] = down_to(x["i" + g] * x["n" + g] * f_lu[g][x["n" + g]] * f, TENTH)
+        x["s" + g] = down_to(x["i" + g] * x["n" + g] * again_use(x, g, x["n" + g]) * f, TENTH)
     alone = down_to(rights(x["vST"]), SHARE)
-    x["sST"] = down_to(x["iT"] * x["nT"] * f_lu["T"][x["nT"]] * alone, TENTH)
-    x["sSL"] = down_to(x["iL"] * (x["nL"] + 1) * Fraction(95, 100), TENTH) if x["shared"] else x["sL"]
+    x["sST"] = down_to(x["iT"] * x["nT"] * again_use(x, "T", x["nT"]) * alone, TENTH)
+    lanes = x["nL"] + x["shared"]
+    x["sSL"] = down_to(x["iL"] * lanes * again_use(x, "L", lanes) * factors["L"], TENTH)
     ped, cl = x["ped"], x["CL"]
     blocked = 24 - down_to(8 * again_decay(ped * (cl - 8)) + 16 * again_decay(ped * 4), MS)
     x["intfR"] = blocked if x["nR"] else Fraction(0)
@@ -473,7 +572,7 @@ def again_cells(x):
 
 
 def again(entries):
-    """The 209 cells and what stands beside them, spelled again."""
+    """The cells and what stands beside them, spelled again: 241 numbers, or 229 of a site of before."""
     names = ("EB", "WB", "NB", "SB")
     compass = {name: again_read(entries, a) for a, name in enumerate(names)}
     for x in compass.values():
@@ -487,7 +586,7 @@ def again(entries):
     rights = [again_right(compass, picked, name) for name in names]
     combined = ew[ew_pick] + ns[ns_pick]
     required = max(rights + [combined])
-    icu = up_to(required / entries[80], MS)
+    icu = up_to(required / entries[-1], MS)
     grade = next((i for i, end in enumerate((55, 64, 73, 82, 91, 100, 109)) if icu * 100 <= end), 7)
     cells = list(entries)
     for x in compass.values():
@@ -507,16 +606,16 @@ def check_stars(what, sheet):
     among = lambda cells: [sheet[i] for i in cells if i in starred]
     for one, other in ((EB, WB), (NB, SB)):
         four = [icu2003.cell(a, k) for a in (one, other) for k in (16, 17)]
-        total = sheet[193 + 2 * one]
+        total = sheet[205 + 2 * one]
         check(what + ", sum", sum(among(four)) if among(four) else BLANK, total)
         check(what + ", a left and the other's through", [i in starred for i in four][:2],
               [i in starred for i in four][:1:-1] if total != BLANK else [False, False])
-        check(what + ", total", among(range(193 + 2 * one, 196 + 2 * one)), [min(sheet[193 + 2 * one:196 + 2 * one])])
+        check(what + ", total", among(range(205 + 2 * one, 208 + 2 * one)), [min(sheet[205 + 2 * one:208 + 2 * one])])
     for a in range(4):
         lesser = sheet[icu2003.cell(a, 25)]
         check(what + ", option", among([icu2003.cell(a, 23), icu2003.cell(a, 24)]), [lesser] if lesser not in (0, BLANK) else [])
-    check(what + ", last", among(range(201, 206)), [sheet[206]])
-    others = set(range(209)) - {icu2003.cell(a, k) for a in range(4) for k in (16, 17, 23, 24)} - set(range(193, 206))
+    check(what + ", last", among(range(213, 218)), [sheet[218]])
+    others = set(range(221)) - {icu2003.cell(a, k) for a in range(4) for k in (16, 17, 23, 24)} - set(range(205, 218))
     check(what + ", no other", starred & others, set())
 
 
@@ -534,13 +633,19 @@ def check_again(rounds):
         check("cells fit 32 bits", all(0 <= x <= BLANK for x in sheet), True)
 
 
+AGAIN_RANGES = {"movement": (range(7), range(10000), range(1000, 2401), range(20001), range(60001), (0, *range(500, 1001))),
+                "approach": (range(2), range(2001), range(2), range(60001), range(2)), "cycle": range(30, 241)}
+
+
 def again_refusals(e):
-    """All refusals of entries that apply."""
-    found = [(3, i) for i in range(81) if e[i] != min(max(e[i], icu2003.limits(i)[0]),
-                                                      icu2003.limits(i)[1])]
+    """All refusals of entries that apply; of 81 entries those of before."""
+    step, own = (6, 72) if len(e) == 93 else (5, 60)
+    ranges = list(12 * AGAIN_RANGES["movement"][:step] + 4 * AGAIN_RANGES["approach"]) + [AGAIN_RANGES["cycle"]]
+    found = [(3, i) for i, (value, allowed) in enumerate(zip(e, ranges)) if value not in allowed]
     for a in range(4):
-        (n_l, n_t, n_r), (v_l, v_t, v_r) = e[15 * a:15 * a + 15:5], e[15 * a + 1:15 * a + 15:5]
-        shared = e[60 + 5 * a]
+        group = e[3 * step * a:3 * step * (a + 1)]
+        (n_l, n_t, n_r), (v_l, v_t, v_r) = group[::step], group[1::step]
+        shared = e[own + 5 * a]
         found += [(4, a)] if shared and (n_l or not n_t) else []
         found += [(5, 3 * a)] if v_l and not (n_l or shared) else []
         found += [(5, 3 * a + 1)] if v_t and not n_t else []
@@ -558,10 +663,10 @@ def check_judge(rounds):
     for _ in range(rounds):
         entries = random_entries(rng)
         for _ in range(rng.choice((0, 1, 1, 2, 3))):
-            lanes, shared = 5 * rng.randrange(12), 60 + 5 * rng.randrange(4)
-            entry = rng.choice((rng.randrange(81), lanes, shared))
+            lanes, shared = 6 * rng.randrange(12), 72 + 5 * rng.randrange(4)
+            entry = rng.choice((rng.randrange(93), lanes, lanes + 5, shared))
             fitting = pick_value(rng, entry)
-            entries[entry] = rng.choice((fitting, fitting, fitting, 7, 0, BLANK))
+            entries[entry] = rng.choice((fitting, fitting, fitting, 7, 0, 499, 1001, BLANK))
         check("judge", judge(entries), again_judge(entries))
 
 
@@ -569,34 +674,34 @@ def check_judge(rounds):
 
 def check_reach(wanted):
     """Amended sheets equal fresh ones: nothing outside the reach list needed a change."""
-    rng = random.Random(81)
+    rng = random.Random(93)
     accepted, seen = 0, set()
     while accepted < wanted:
         entries = random_entries(rng)
         sheet = fill(entries)
         for _ in range(6):
-            entry = rng.randrange(81)
+            entry = rng.randrange(93)
             value = pick_value(rng, entry)
             before = list(sheet)
             if amend(sheet, entry, value) == (0, 0):
                 accepted += 1
                 seen.add(entry)
-                amended = before[:entry] + [value] + before[entry + 1:81]
+                amended = before[:entry] + [value] + before[entry + 1:93]
                 check("amend %d" % entry, sheet, fill(amended))
             else:
                 check("refused amendment writes nothing", sheet, before)
-    check("every entry was amended", len(seen), 81)
+    check("every entry was amended", len(seen), 93)
 
 
 def check_history(rounds):
     """On a sheet with any cells, reached ones become fresh and the others stay."""
-    rng = random.Random(209)
+    rng = random.Random(221)
     for _ in range(rounds):
         sheet = random_entries(rng) + [rng.randrange(BLANK + 1) for _ in range(128)]
-        before, entry = list(sheet), rng.randrange(81)
+        before, entry = list(sheet), rng.randrange(93)
         value = before[entry] if rng.random() < 0.3 else pick_value(rng, entry)
         answer = amend(sheet, entry, value)
-        entries = before[:entry] + [value] + before[entry + 1:81]
+        entries = before[:entry] + [value] + before[entry + 1:93]
         check("answer", answer, judge(entries))
         wanted = list(before)
         if answer == (0, 0):
@@ -608,19 +713,24 @@ def check_history(rounds):
 
 def check_amend_answers():
     sheet = fill(junctions.K1)
-    check("208 cells", amend(sheet[:208], 0, 1), (1, 0))
-    check("entry 81", amend(sheet, 81, 1), (2, 0))
-    check("out of range", amend(sheet, 80, 241), (3, 80))
-    check("shared", amend(sheet, 70, 1), (4, 2))
-    check("no lane", amend(sheet, 35, 0), (5, 7))
+    for size in (209, 220):
+        check("%d cells" % size, amend(sheet[:size], 0, 1), (1, 0))
+    check("entry 93", amend(sheet, 93, 1), (2, 0))
+    check("out of range", amend(sheet, 92, 241), (3, 92))
+    for value in (1, 499, 1001):
+        check("lane factor out of range", amend(sheet, 5, value), (3, 5))
+    check("shared", amend(sheet, 82, 1), (4, 2))
+    check("no lane", amend(sheet, 42, 0), (5, 7))
     check("nothing written", sheet, fill(junctions.K1))
     sheet[3] = 20001
-    check("another entry is named", amend(sheet, 80, 90), (3, 3))
+    check("another entry is named", amend(sheet, 92, 90), (3, 3))
     check("the amended one's old value is not", amend(sheet, 3, 4000), (0, 0))
-    sizes = [len(reach(entry)) for entry in (0, 1, 2, 3, 4, 60, 61, 62, 63, 64, 80)]
-    check("sizes of the reach lists", sizes, [46, 46, 46, 17, 17, 46, 25, 16, 15, 8, 128])
+    sizes = [len(reach(entry)) for entry in (0, 1, 2, 3, 4, 5, 72, 73, 74, 75, 76, 92)]
+    check("sizes of the reach lists", sizes, [46, 46, 46, 17, 17, 46, 46, 25, 16, 15, 8, 128])
+    for m in range(12):
+        check("a lane factor reaches what lanes reach", reach(6 * m + 5), reach(6 * m))
     check("the opposite approach is reached",
-          (cell(WB, 21) in reach(1), cell(NB, 26) in reach(75)), (True, True))
+          (cell(WB, 21) in reach(1), cell(WB, 24) in reach(5), cell(NB, 26) in reach(87)), (True, True, True))
 
 
 # ---------------------------------------------------------------- study files
@@ -628,70 +738,189 @@ def check_amend_answers():
 def study(*sites):
     """The bytes of a study file of these sites."""
     numbers = [x for site in sites for x in site]
-    out = bytearray(8 + 328 * len(sites))
+    out = bytearray(8 + 376 * len(sites))
     assert icu2003.study_write(numbers, out) == (0, 0)
     return bytes(out)
 
 
-def walked_place(data):
-    """study_check once more, as a walk along the fields."""
+def walked(data, opening, most, block):
+    """study_check once more for one kind of file, as a walk along the fields."""
     k = int.from_bytes(data[4:8], "little")
-    fields = [(0, 4, lambda f: f == b"ICUS"), (4, 4, lambda f: k <= 180)]
-    fields += [(8 + 4 * j, 4, lambda f, j=j: int.from_bytes(f, "little") == 8 + 4 * k + 324 * j)
-               for j in range(min(k, 180))]
-    fields.append((8 + 4 * k, 324 * k, lambda f: True))
+    fields = [(0, 4, lambda f: f == opening), (4, 4, lambda f: k <= most)]
+    fields += [(8 + 4 * j, 4, lambda f, j=j: int.from_bytes(f, "little") == 8 + 4 * k + block * j)
+               for j in range(min(k, most))]
+    fields.append((8 + 4 * k, block * k, lambda f: True))
     for at, size, right in fields:
         if len(data) < at + size:
             return (6, len(data))
         if not right(data[at:at + size]):
             return (6, at)
-    return (0, 0) if len(data) == 8 + 328 * k else (6, 8 + 328 * k)
+    end = 8 + (4 + block) * k
+    return (0, 0) if len(data) == end else (6, end)
+
+
+def old_reader(data):
+    """What a reader of before says of a file: it knows one kind."""
+    return walked(data, b"ICUS", 180, 324)
+
+
+def walked_place(data):
+    """study_check once more: a file of today, or one of before."""
+    return walked(data, b"ICUT", 165, 372) if data[:4] == b"ICUT" else old_reader(data)
+
+
+def any_block(rng, size):
+    """So many numbers of any kind."""
+    return [rng.choice((0, 1, BLANK, rng.randrange(BLANK + 1))) for _ in range(size)]
 
 
 def check_study_round_trips(rounds):
+    """What is written is read; what is read of a file of today and written again is that file."""
     rng = random.Random(6)
-    for k in [0, 1, 2, 179, 180] + [rng.randrange(180) for _ in range(rounds)]:
-        sites = [[rng.randrange(BLANK + 1) for _ in range(81)] for _ in range(k)]
+    for k in [0, 1, 2, 164, 165] + [rng.randrange(165) for _ in range(rounds)]:
+        sites = [any_block(rng, 93) for _ in range(k)]
         data = study(*sites)
-        check("written file is good", icu2003.study_check(data), (0, 0))
+        check("written file is good", (icu2003.study_check(data), data[:4]), ((0, 0), b"ICUT"))
         back = [icu2003.block_entries(icu2003.study_site(data, j)) for j in range(k)]
-        check("round trip", back, sites)
+        check("there and back", back, sites)
+        check("back and there", study(*back), data)
+        check("an old reader", old_reader(data), (6, 0))
         for site in (k, k + 1, BLANK):
             check("missing site", icu2003.study_site_check(data, site), (6, 4))
             check("empty part", icu2003.study_site(data, site), b"")
 
 
+def check_old_studies(rounds):
+    """Files of before: read as they were, each block 324 bytes, its entries widened; written anew, they list the same."""
+    rng = random.Random(81)
+    for k in [0, 1, 165, 166, 180] + [rng.randrange(180) for _ in range(rounds)]:
+        blocks = [any_block(rng, 81) if rng.random() < 0.3 else studies.narrowed(random_entries(rng)) for _ in range(k)]
+        data = studies.old_file(blocks)
+        check("a file of before", (icu2003.study_check(data), old_reader(data)), ((0, 0), (0, 0)))
+        parts = [icu2003.study_site(data, j) for j in range(k)]
+        check("its parts", parts, [b"".join(x.to_bytes(4, "little") for x in block) for block in blocks])
+        sites = [icu2003.block_entries(part) for part in parts]
+        check("its entries", (sites, icu2003.study_sites(data)), ([again_widened(block) for block in blocks],) * 2)
+        check("a site that it lacks", (icu2003.study_site_check(data, k), icu2003.study_site(data, k)), ((6, 4), b""))
+        if k <= 165:
+            check("converted, the same listing", listing(study(*sites)), listing(data))
+        lines_of_before = [again_line(j + 1, block) for j, block in enumerate(blocks)]
+        check("listing", listing(data).splitlines(), lines_of_before)
+
+
+def again_widened(old):
+    """The entries of before at their places of today, all others 0."""
+    places = {6 * m + j: old[5 * m + j] for m in range(12) for j in range(5)}
+    places.update({72 + i: old[60 + i] for i in range(21)})
+    return [places.get(place, 0) for place in range(93)]
+
+
+def new_place(number, place):
+    """The place of today of a refusal of before."""
+    return place if number != 3 else 6 * (place // 5) + place % 5 if place < 60 else place + 12
+
+
+def again_line(number, old):
+    """The line of a listing by the rules of before, a refused entry named by its place of today."""
+    answer = again_judge(old)
+    if answer != (0, 0):
+        return "%d R%d %d" % (number, answer[0], new_place(*answer))
+    cells = again(old)
+    return "%d %d %s %s%s" % (number, cells[207], "ABCDEFGH"[cells[208]], "PMS"[cells[196]], "PMS"[cells[200]])
+
+
+def check_widened(rounds):
+    """Sites of before: the same refusals, lines, pairs, last eight and what stands beside them, by the rules of before."""
+    rng = random.Random(5)
+    check("places of before", widened(list(range(100, 181))), again_widened(list(range(100, 181))))
+    named = [entries for _, entries in junctions.all_junctions() if junctions.by_table(entries)]
+    check("named junctions of before", len(named), 73)
+    for entries in named + [table_alone(random_entries(rng)) for _ in range(rounds)]:
+        old = studies.narrowed(entries)
+        if rng.random() < 0.3:
+            old[rng.randrange(81)] = rng.choice((0, 1, 2, 7, BLANK))
+        number, place = again_judge(old)
+        check("refusal of before", judge(widened(old)), (number, new_place(number, place)))
+        if number == 0:
+            check("lines of before", fill(widened(old))[93:] + beside(widened(old)), again(old)[81:])
+
+
 def check_study_places():
-    good = study(junctions.K1, NAMED["K2"], NAMED["cycle 29"])
-    for cut in range(len(good)):
-        check("short file", icu2003.study_check(good[:cut]), (6, cut))
-    check("long file", icu2003.study_check(good + b"\0\0"), (6, len(good)))
+    for good, wrong in ((study(junctions.K1, NAMED["K2"], NAMED["cycle 29"]), b"ICUS"),
+                        (studies.old_study([junctions.K1, NAMED["K2"], NAMED["cycle 29"]]), b"ICUT")):
+        for cut in range(len(good)):
+            check("short file", icu2003.study_check(good[:cut]), (6, cut))
+        check("long file", icu2003.study_check(good + b"\0\0"), (6, len(good)))
+        check("the other opening", icu2003.study_check(wrong + good[4:]), (6, 12))
+        check("no such opening", [icu2003.study_check(opening + good[4:]) for opening in (b"ICUO", b"ICUU", b"icut", b"\0CUT")], [(6, 0)] * 4)
+        check("site of a bad file", icu2003.study_site_check(good[:-1], 7), (6, len(good) - 1))
+        check_damaged(good, random.Random(7))
     check("short and wrong", icu2003.study_check(b"XY"), (6, 2))
-    check("too many sites", icu2003.study_check(b"ICUS" + (181).to_bytes(4, "little")), (6, 4))
-    check("site of a bad file", icu2003.study_site_check(good[:-1], 7), (6, len(good) - 1))
-    rng = random.Random(7)
-    for _ in range(3000):
+    for opening, most in ((b"ICUT", 165), (b"ICUS", 180)):
+        counted = [icu2003.study_check(opening + (most + more).to_bytes(4, "little")) for more in (0, 1, 2)]
+        check("too many sites", counted, [(6, 8), (6, 4), (6, 4)])
+
+
+def check_damaged(good, rng):
+    """Files cut, lengthened and changed near their fronts."""
+    for _ in range(2000):
         size = rng.choice((len(good), rng.randrange(30)))
         data = bytearray(good[:size] + bytes(rng.choice((0, 0, 1))))
         for _ in range(rng.choice((0, 1, 2))):
             if data:
-                data[rng.randrange(min(len(data), 24))] = rng.choice((0, 1, 2, 3, 180, 255))
+                data[rng.randrange(min(len(data), 24))] = rng.choice((0, 1, 2, 3, 83, 84, 165, 166, 180, 181, 255))
         data = bytes(data)
         check("place in %s" % data[:24], icu2003.study_check(data), walked_place(data))
+        check("what an old reader takes", old_reader(data) == (0, 0), data[:4] == b"ICUS" and icu2003.study_check(data) == (0, 0))
+        if data[:4] == b"ICUT":
+            check("an old reader of a new file", old_reader(data), (6, 0))
+
+
+def check_long_files():
+    """No file is judged by more than its first 62,049 bytes, one more than the longest good one has."""
+    rng = random.Random(62049)
+    full, old_full = study(*[junctions.K1] * 165), studies.old_study([junctions.K1] * 180)
+    check("the longest files", (len(full), len(old_full)), (62048, 59048))
+    for whole in (full, old_full, study(junctions.K1), b"", b"ICUT" + old_full[4:], b"ICUS" + full[4:], b"ICUO" + full[4:]):
+        for more in (1, 2, 3000, 9000):
+            data = bytearray(whole + bytes(more))
+            for _ in range(rng.choice((0, 0, 1, 3))):
+                data[rng.randrange(min(len(data), 800))] = rng.choice((0, 1, 84, 165, 255))
+            check("what decides", icu2003.study_check(bytes(data)), icu2003.study_check(bytes(data[:62049])))
+            check("the place", walked_place(bytes(data)), icu2003.study_check(bytes(data)))
 
 
 def check_study_write():
     write = icu2003.study_write
     out = bytearray(b"\7" * 1000)
-    check("80 numbers", write([0] * 80, out), (1, 0))
-    check("181 sites", write([0] * (81 * 181), bytearray(70000)), (6, 0))
-    check("181 sites and no room", write([0] * (81 * 181), bytearray()), (6, 0))
-    check("no room", write([0] * 81, bytearray(335)), (6, 4))
+    for numbers in (81, 92, 94):
+        check("%d numbers" % numbers, write([0] * numbers, out), (1, 0))
+    check("166 sites", write([0] * (93 * 166), bytearray(70000)), (6, 0))
+    check("166 sites and no room", write([0] * (93 * 166), bytearray()), (6, 0))
+    check("no room", write([0] * 93, bytearray(383)), (6, 4))
     check("nothing written", out, bytearray(b"\7" * 1000))
     check("one site", write(junctions.K1, out), (0, 0))
-    check("bytes past it stay", (out[:336], out[336:]), (study(junctions.K1), b"\7" * 664))
+    check("bytes past it stay", (out[:384], out[384:]), (study(junctions.K1), b"\7" * 616))
     old_offset = study(junctions.K1)[8:12]
-    check("no sites", (write([], out), out[:12]), ((0, 0), b"ICUS\0\0\0\0" + old_offset))
+    check("no sites", (write([], out), out[:12]), ((0, 0), b"ICUT\0\0\0\0" + old_offset))
+    check("the longest file", len(study(*[junctions.K1] * 165)), 62048)
+
+
+def check_runs():
+    """The files of the runs: each is as its name says, and those of before are not written by today's rules."""
+    old, new = studies.old_studies(), studies.new_studies()
+    for name, place in (("example", None), ("empty", None), ("full", None), ("opening", 0), ("count", 4), ("offset", 12), ("short", 663),
+                        ("long", 59048), ("blocks", 12)):
+        check("run " + name, icu2003.study_check(old[name]), (0, 0) if place is None else (6, place))
+    for name, place in (("example", None), ("empty", None), ("measured", None), ("full", None), ("opening", 0), ("cut", 3), ("count", 4),
+                        ("offset", 12), ("short", 759), ("long", 62048), ("blocks", 12)):
+        check("run new-" + name, icu2003.study_check(new["new-" + name]), (0, 0) if place is None else (6, place))
+    check("full files", [len(listing(data).splitlines()) for data in (old["full"], new["new-full"])], [180, 165])
+    check("the same two", listing(old["example"]), listing(new["new-example"]))
+    check("measured", listing(new["new-measured"]), "1 603 B PM\n2 R3 5\n3 R3 29\n4 R3 41\n5 R3 71\n6 R3 11\n7 R3 23\n")
+    sites = samples.sites()
+    check("the sample", listing(studies.old_study(sites)), listing(study(*sites)))
+    check("its last site", listing(study(*sites)).splitlines()[10], "11 R3 92")
 
 
 # ---------------------------------------------------------------- diamond interchanges
@@ -704,8 +933,8 @@ def again_interchange(entries):
     sheet, times = again(entries), {}
     for a, name in enumerate(("EB", "WB", "NB", "SB")):
         for turn, line in zip("LTR", (16, 17, 18)):
-            free = turn == "R" and entries[64 + 5 * a] == 1
-            times[name + turn] = Fraction(0) if free else sheet[81 + 28 * a + line - 1] * MS
+            free = turn == "R" and entries[76 + 5 * a] == 1
+            times[name + turn] = Fraction(0) if free else sheet[93 + 28 * a + line - 1] * MS
     return times
 
 
@@ -718,14 +947,14 @@ def again_below(lefts, cl, storage):
 
 def again_plans(record, isolated, leading):
     """The three plans in seconds, None where a storage is too short for one."""
-    lefts = (record[16], record[81 + 1], record[46], record[81 + 31])
-    wbl, ebl, sbl, nbl = (again_below(v, record[80], storage) for v, storage in zip(lefts, record[162:166]))
+    lefts = (record[19], record[93 + 1], record[55], record[93 + 37])
+    wbl, ebl, sbl, nbl = (again_below(v, record[92], storage) for v, storage in zip(lefts, record[186:190]))
     return [leading, isolated if wbl and ebl and sbl and nbl else None, isolated if sbl and nbl else None]
 
 
 def again_diamond(record):
     """The 29 cells from the book's shapes of lines 24 to 37."""
-    w, e, travel = again_interchange(record[:81]), again_interchange(record[81:162]), record[166] * MS
+    w, e, travel = again_interchange(record[:93]), again_interchange(record[93:186]), record[190] * MS
     eb_in, wb_in = max(w["EBT"], w["EBR"]), max(e["WBT"], e["WBR"])
     sb, nb = max(w["SBL"], w["SBT"], w["SBR"]), max(e["NBL"], e["NBT"], e["NBR"])
     first = (eb_in + w["WBL"] + max(w["SBL"], w["SBT"]), wb_in + e["EBL"] + max(e["NBL"], e["NBT"]))
@@ -735,7 +964,7 @@ def again_diamond(record):
     leading = eb_in + max(sb, 2 * travel) - t_oe + wb_in + max(nb, 2 * travel) - t_ow
     three = again_plans(record, max(larger), leading)
     best, pick = min((time, k) for k, time in enumerate(three) if time is not None)
-    icu = up_to(best / record[80], MS)
+    icu = up_to(best / record[92], MS)
     grade = next((i for i, end in enumerate((55, 64, 73, 82, 91, 100, 109)) if icu * 100 <= end), 7)
     times = [w[name] for name in "EBT EBR WBL WBT SBL SBT SBR".split()] + [e[name] for name in "WBT WBR EBL EBT NBL NBT NBR".split()]
     times += first + other + larger + (t_ow, t_oe)
@@ -745,12 +974,12 @@ def again_diamond(record):
 def again_judge_diamond(record):
     """All refusals of a record that apply, the first in order taken."""
     found = []
-    for east, entries in enumerate((record[:81], record[81:162])):
-        steps = {3: 81, 4: 4, 5: 12}
+    for east, entries in enumerate((record[:93], record[93:186])):
+        steps = {3: 93, 4: 4, 5: 12}
         found += [(number, place + east * steps[number]) for number, place in again_refusals(entries)]
-    found += [(3, 161)] if record[161] != record[80] else []
-    found += [(7, place) for place in (162, 163, 164, 165) if record[place] not in range(1, 1000)]
-    found += [(8, 166)] if record[166] > 60000 else []
+    found += [(3, 185)] if record[185] != record[92] else []
+    found += [(7, place) for place in (186, 187, 188, 189) if record[place] not in range(1, 1000)]
+    found += [(8, 190)] if record[190] > 60000 else []
     return min(found, default=(0, 0))
 
 
@@ -790,6 +1019,8 @@ def check_named_diamonds():
     check("overlaps no longer than what enters", icu2003.diamond(DIAMONDS["travel 60 s"])[20:22], [29211, 27635])
     free, held = icu2003.diamond(DIAMONDS["free rights on every leg"]), icu2003.diamond(DIAMONDS["the same rights held"])
     check("free rights", [(x, y) for x, y in zip(free[:14], held) if x != y], [(0, 53412)] * 4)
+    counted = icu2003.diamond(DIAMONDS["measured lane factors on every leg"])
+    check("measured lane factors", [(counted[k], held[k]) for k in (0, 1, 2)], [(29715, 22000), (86353, 53412), (11106, 9685)])
     check("other legs", icu2003.diamond(DIAMONDS["other legs change nothing"]), held)
     check("lefts of shared lanes", [icu2003.diamond(DIAMONDS["shared lanes on the arterial"])[k] for k in (2, 9)], [0, 0])
     check("crossings", [icu2003.diamond(DIAMONDS["people cross at closed legs"])[k] for k in (0, 5, 10, 12)], [21836] * 4)
@@ -797,22 +1028,24 @@ def check_named_diamonds():
 
 def check_diamond_refusals():
     for name, wanted in (
-            ("a cycle of 29", (3, 80)), ("the east's cycle another", (3, 161)), ("the east's cycle another and out of range", (3, 161)),
-            ("the east's cycle another, an entry before it out of range", (3, 83)), ("both cycles out of range", (3, 80)),
-            ("an entry of each junction out of range", (3, 79)), ("an entry of the east out of range, all else wrong", (3, 81)),
+            ("a cycle of 29", (3, 92)), ("the east's cycle another", (3, 185)), ("the east's cycle another and out of range", (3, 185)),
+            ("the east's cycle another, an entry before it out of range", (3, 95)), ("both cycles out of range", (3, 92)),
+            ("an entry of each junction out of range", (3, 91)), ("an entry of the east out of range, all else wrong", (3, 93)),
+            ("a lane factor of the east out of range", (3, 104)),
             ("shared lanes in both junctions", (4, 1)), ("a shared lane in the east", (4, 4)), ("no lane in both junctions", (5, 10)),
-            ("no lane in the east", (5, 20)), ("storages out of range", (7, 162)), ("the last storage out of range", (7, 165)),
-            ("the travel time out of range", (8, 166)), ("166 numbers", (1, 0)), ("168 numbers", (1, 0))):
+            ("no lane in the east", (5, 20)), ("storages out of range", (7, 186)), ("the last storage out of range", (7, 189)),
+            ("the travel time out of range", (8, 190)), ("a number too few", (1, 0)), ("a number too many", (1, 0)),
+            ("the numbers of before", (1, 0))):
         check(name, icu2003.judge_diamond(DIAMONDS[name]), wanted)
     good = DIAMONDS["lagging picked"]
-    for place in range(167):
-        least, largest = icu2003.limits(place % 81) if place < 162 else (1, 999) if place < 166 else (0, 60000)
-        number = 3 if place < 162 else 7 if place < 166 else 8
+    for place in range(191):
+        least, largest = icu2003.limits(place % 93) if place < 186 else (1, 999) if place < 190 else (0, 60000)
+        number = 3 if place < 186 else 7 if place < 190 else 8
         for value in {least - 1, largest + 1, BLANK} - {-1}:
             check("record's %d as %d" % (place, value), icu2003.judge_diamond(junctions.changed(good, {place: value})), (number, place))
     for cycle in (30, 119, 240):
-        check("another cycle", icu2003.judge_diamond(junctions.changed(good, {161: cycle})), (3, 161))
-        check("the west's cycle", icu2003.judge_diamond(junctions.changed(good, {80: cycle})), (3, 161))
+        check("another cycle", icu2003.judge_diamond(junctions.changed(good, {185: cycle})), (3, 185))
+        check("the west's cycle", icu2003.judge_diamond(junctions.changed(good, {92: cycle})), (3, 185))
 
 
 def check_ratio(rounds):
@@ -846,18 +1079,18 @@ def random_record(rng):
     west, east = random_entries(rng), random_entries(rng)
     if rng.random() < 0.2:
         east = list(west)
-    east[80] = west[80]
+    east[92] = west[92]
     record = west + east + [rng.choice((1, 999, rng.randint(1, 999))) for _ in range(4)]
     record.append(rng.choice((0, 60000, rng.randint(0, 60000), rng.randint(0, 15000))))
     for k in range(4):
         x = Decimal(icu2003.per_cycle(record, k)) / 3600
         if rng.random() < 0.8:
-            record[162 + k] = min(999, max(1, int(x + Decimal("1.28") * x.sqrt()) + rng.choice((0, 1, 1, 1, 2))))
+            record[186 + k] = min(999, max(1, int(x + Decimal("1.28") * x.sqrt()) + rng.choice((0, 1, 1, 1, 2))))
     return record
 
 
 def check_diamonds(rounds):
-    rng = random.Random(167)
+    rng = random.Random(191)
     seen = set()
     for name, record in diamonds.all_diamonds():
         if icu2003.judge_diamond(record) == (0, 0):
@@ -873,9 +1106,9 @@ def check_diamonds(rounds):
         check("cells fit 32 bits", all(0 <= x <= BLANK for x in cells), True)
         seen.add((pick, three[1] == BLANK, three[2] == BLANK))
         for _ in range(rng.choice((0, 1, 1, 2, 3))):
-            place = rng.choice((rng.randrange(167), rng.randrange(162, 167), 60 + 5 * rng.randrange(4), 141 + 5 * rng.randrange(4),
-                                5 * rng.randrange(12), 81 + 5 * rng.randrange(12), 161))
-            record[place] = rng.choice((0, 1, 2, 7, 1000, 60001, BLANK))
+            place = rng.choice((rng.randrange(191), rng.randrange(186, 191), 72 + 5 * rng.randrange(4), 165 + 5 * rng.randrange(4),
+                                6 * rng.randrange(12), 93 + 6 * rng.randrange(12), 6 * rng.randrange(12) + 5, 185))
+            record[place] = rng.choice((0, 1, 2, 7, 499, 1000, 1001, 60001, BLANK))
         check("judge of a record", icu2003.judge_diamond(record), again_judge_diamond(record))
     check("each pick, by whether lagging and lead-lag are not allowed", seen,
           {(0, True, True), (0, True, False), (0, False, False), (1, False, False), (2, True, False)})
@@ -885,12 +1118,12 @@ def check_pages():
     for name, record in diamonds.all_diamonds():
         if icu2003.judge_diamond(record) == (0, 0):
             rows = diamonds.page_text(record).split("\n")
-            check("page of " + name, [len(row) for row in rows], [112] * 61 + [0])
-            check("numbers of " + name, len(diamonds.page_numbers(record)), 464)
+            check("page of " + name, [len(row) for row in rows], [112] * 63 + [0])
+            check("numbers of " + name, len(diamonds.page_numbers(record)), 488)
             cells = icu2003.diamond(record)
             plans = ["NA" if x == BLANK else table.decimal(x, 3) for x in cells[22:25]]
             plans[cells[25]] = "*" + plans[cells[25]]
-            check("plans of " + name, [row[35:].replace(" ", "") for row in rows[55:58]], plans)
+            check("plans of " + name, [row[35:].replace(" ", "") for row in rows[57:60]], plans)
 
 
 # ---------------------------------------------------------------- open studies
@@ -915,12 +1148,12 @@ def first_refusal(found):
 
 def story_add(story, office, entries):
     """The answer to an add, which begins a site."""
-    found = again_refusals(entries) if len(entries) == 81 else [(1, 0)]
+    found = again_refusals(entries) if len(entries) == 93 else [(1, 0)]
     found += [(9, 0)] if office == 0 else []
     found += [(10, 0)] if all(story) else []
     answer = first_refusal(found)
     if answer == (0, 0):
-        story[min(place for place in range(180) if not story[place])] = (office, list(entries), [])
+        story[min(place for place in range(165) if not story[place])] = (office, list(entries), [])
     return answer
 
 
@@ -933,7 +1166,7 @@ def story_own(story, office, site):
 def story_amend(story, office, site, entry, value):
     """The answer to an amendment, which is one more change of a site."""
     own = story_own(story, office, site)
-    found = [(2, 0)] if entry > 80 else []
+    found = [(2, 0)] if entry > 92 else []
     found += [(9, site)] if own is None else []
     if not found:
         found = again_refusals(junctions.changed(story_entries(own), {entry: value}))
@@ -953,7 +1186,7 @@ def bad_or_good(rng):
     """Entries that are acceptable or a little wrong."""
     entries = random_entries(rng)
     for _ in range(rng.choice((0, 0, 0, 1, 2))):
-        entry = rng.randrange(81)
+        entry = rng.randrange(93)
         entries[entry] = rng.choice((0, 1, 7, BLANK, pick_value(rng, entry)))
     return entries
 
@@ -961,18 +1194,18 @@ def bad_or_good(rng):
 def open_step(rng, story, lists, office):
     """One step of an office in the lists and in the story: both answers and both sheets."""
     own = [place for place, taken in enumerate(story) if taken and taken[0] == office]
-    site = rng.choice(own) if own and rng.random() < 0.7 else rng.choice((rng.randrange(180), 180, 181, BLANK))
+    site = rng.choice(own) if own and rng.random() < 0.7 else rng.choice((rng.randrange(165), 165, 166, 179, BLANK))
     job = rng.randrange(4)
     if job == 0:
-        entries = bad_or_good(rng)[:rng.choice((81, 81, 81, 80))]
+        entries = bad_or_good(rng)[:rng.choice((93, 93, 93, 92, 81))]
         return icu2003.open_add(*lists, office, entries)[0], story_add(story, office, entries), None, None
     if job < 3:
-        entry = rng.choice((rng.randrange(81), rng.randrange(81), rng.randrange(81), 81, BLANK))
-        value = rng.choice((pick_value(rng, entry), rng.randrange(BLANK + 1))) if entry < 81 else 0
+        entry = rng.choice((rng.randrange(93), rng.randrange(93), 6 * rng.randrange(12) + 5, 93, BLANK))
+        value = rng.choice((pick_value(rng, entry), rng.randrange(BLANK + 1))) if entry < 93 else 0
         return icu2003.open_amend(*lists, office, site, entry, value), story_amend(story, office, site, entry, value), None, None
-    sheet = [7] * 209
+    sheet = [7] * 221
     answer, wanted = story_read(story, office, site)
-    return icu2003.open_read(*lists, office, site, sheet), answer, sheet, wanted or [7] * 209
+    return icu2003.open_read(*lists, office, site, sheet), answer, sheet, wanted or [7] * 221
 
 
 def places_of(owners, blocks):
@@ -988,20 +1221,20 @@ def check_step(rng, story, lists, office):
     check("sheet read", sheet, fresh)
     after = places_of(*lists)
     free = [place for place, (owner, _) in enumerate(before) if owner == 0]
-    moved = [place for place in range(180) if before[place] != after[place]]
+    moved = [place for place in range(165) if before[place] != after[place]]
     check("one place moves at most, and none on a refusal", len(moved) <= int(got == (0, 0)), True)
     check("another's place", [place for place in moved if before[place][0] != office and place not in free[:1]], [])
     check("owners by the story", lists[0], [taken[0] if taken else 0 for taken in story])
-    check("blocks by the story", [after[place][1] for place in range(180) if story[place]], [story_entries(taken) for taken in story if taken])
+    check("blocks by the story", [after[place][1] for place in range(165) if story[place]], [story_entries(taken) for taken in story if taken])
     return got[0]
 
 
 def check_offices(rounds):
     """Runs of several offices in studies of any history."""
-    rng, seen = random.Random(180), set()
+    rng, seen = random.Random(165), set()
     for _ in range(rounds // 12):
         numbers = rng.choice(([1, 2], [1, 2, 3], [BLANK, 5], [rng.randrange(1, BLANK) for _ in range(4)]))
-        lists = offices.any_study(rng, numbers, [bad_or_good(rng) for _ in range(6)] + [[BLANK] * 81])
+        lists = offices.any_study(rng, numbers, [bad_or_good(rng) for _ in range(6)] + [[BLANK] * 93])
         story = [(owner, block, []) if owner else None for owner, block in places_of(*lists)]
         seen |= {check_step(rng, story, lists, rng.choice(numbers + [0])) for _ in range(25)}
     check("every answer came up", seen, {0, 1, 2, 3, 4, 5, 9, 10})
@@ -1010,11 +1243,11 @@ def check_offices(rounds):
 def others_changed(rng, owners, blocks, office):
     """A study that differs in what is another's or free, and not in what an office may learn: its own sites and the lowest free place."""
     owners, blocks = list(owners), list(blocks)
-    lowest = owners.index(0) if 0 in owners else 180
-    for place in range(180):
+    lowest = owners.index(0) if 0 in owners else 165
+    for place in range(165):
         if owners[place] == office:
             continue
-        blocks[81 * place:81 * place + 81] = [rng.randrange(BLANK + 1)] * 81
+        blocks[93 * place:93 * place + 93] = [rng.randrange(BLANK + 1)] * 93
         if place != lowest:
             stranger = rng.choice([number for number in (1, 2, 3, BLANK) if number != office])
             owners[place] = rng.choice((0, stranger)) if place > lowest else stranger
@@ -1028,39 +1261,41 @@ def check_told(rounds):
         office = rng.choice((1, 2, BLANK))
         one = offices.any_study(rng, [1, 2, BLANK], [bad_or_good(rng) for _ in range(4)])
         other = others_changed(rng, *one, office)
-        entries, site, entry = bad_or_good(rng), rng.choice((rng.randrange(180), BLANK)), rng.randrange(82)
+        entries, site, entry = bad_or_good(rng), rng.choice((rng.randrange(165), BLANK)), rng.randrange(94)
         told = []
         for owners, blocks in (one, other):
-            sheet = [7] * 209
+            sheet = [7] * 221
             answers = [icu2003.open_read(owners, blocks, office, site, sheet), icu2003.open_amend(owners, blocks, office, site, entry, 100),
                        icu2003.open_add(owners, blocks, office, entries)]
-            told.append((answers, sheet, [icu2003.place_block(blocks, place) for place in range(180) if owners[place] == office]))
+            told.append((answers, sheet, [icu2003.place_block(blocks, place) for place in range(165) if owners[place] == office]))
         check("what an office is told", told[0], told[1])
 
 
-BAD_CYCLE = junctions.changed(junctions.K1, {80: 29})
+BAD_CYCLE = junctions.changed(junctions.K1, {92: 29})
 
 
 def shared_study():
     """Office 3 at the first place, 4 at the third, all others free; K1 at every place."""
-    return [3, 0, 4] + [0] * 177, junctions.K1 * 180
+    return [3, 0, 4] + [0] * 162, junctions.K1 * 165
 
 
 def check_open_adds():
     """Each refusal of an add, and each before those that come after it; the lowest place."""
-    add, full = icu2003.open_add, [3] * 180
+    add, full = icu2003.open_add, [3] * 165
     (owners, blocks), kept = shared_study(), shared_study()
     for what, got, wanted in (
-            ("179 owners", add(owners[1:], blocks, 0, BAD_CYCLE), (1, 0)), ("181 owners", add(owners + [0], blocks, 0, BAD_CYCLE), (1, 0)),
-            ("179 blocks", add(owners, blocks[81:], 0, BAD_CYCLE), (1, 0)), ("a number too many", add(owners, blocks + [0], 3, BAD_CYCLE), (1, 0)),
-            ("80 entries", add(owners, blocks, 0, BAD_CYCLE[:80]), (1, 0)), ("no office", add(owners, blocks, 0, BAD_CYCLE), (9, 0)),
-            ("no office, full", add(full, blocks, 0, junctions.K1), (9, 0)), ("range, full", add(full, blocks, 3, BAD_CYCLE), (3, 80)),
+            ("164 owners", add(owners[1:], blocks, 0, BAD_CYCLE), (1, 0)), ("166 owners", add(owners + [0], blocks, 0, BAD_CYCLE), (1, 0)),
+            ("164 blocks", add(owners, blocks[93:], 0, BAD_CYCLE), (1, 0)), ("a number too many", add(owners, blocks + [0], 3, BAD_CYCLE), (1, 0)),
+            ("a study of before", add([0] * 180, [0] * 81 * 180, 3, junctions.K1), (1, 0)),
+            ("entries of before", add(owners, blocks, 3, studies.narrowed(junctions.K1)), (1, 0)),
+            ("92 entries", add(owners, blocks, 0, BAD_CYCLE[:92]), (1, 0)), ("no office", add(owners, blocks, 0, BAD_CYCLE), (9, 0)),
+            ("no office, full", add(full, blocks, 0, junctions.K1), (9, 0)), ("range, full", add(full, blocks, 3, BAD_CYCLE), (3, 92)),
             ("shared, full", add(full, blocks, 3, NAMED["shared lane beside a left lane"]), (4, 1)),
             ("no lane, full", add(full, blocks, 3, NAMED["lefts without a lane"]), (5, 3)), ("full", add(full, blocks, 3, junctions.K1), (10, 0))):
         check("add, " + what, got, (wanted, None))
     check("nothing added", (owners, blocks), kept)
     check("lowest free place", add(owners, blocks, BLANK, NAMED["K2"]), ((0, 0), 1))
-    check("what stands there", (owners, blocks), ([3, BLANK, 4] + [0] * 177, junctions.K1 + NAMED["K2"] + junctions.K1 * 178))
+    check("what stands there", (owners, blocks), ([3, BLANK, 4] + [0] * 162, junctions.K1 + NAMED["K2"] + junctions.K1 * 163))
     check("the next", add(owners, blocks, 3, NAMED["K2"]), ((0, 0), 3))
 
 
@@ -1069,43 +1304,45 @@ def check_open_amendments():
     amending = icu2003.open_amend
     (owners, blocks), kept = shared_study(), shared_study()
     for what, got, wanted in (
-            ("179 owners", amending(owners[1:], blocks, 0, 180, 81, 0), (1, 0)), ("a number too few", amending(owners, blocks[1:], 0, 180, 81, 0), (1, 0)),
-            ("entry 81", amending(owners, blocks, 0, 180, 81, 0), (2, 0)), ("no office", amending(owners, blocks, 0, 1, 80, 29), (9, 1)),
-            ("no office and no place", amending(owners, blocks, 0, 180, 80, 29), (9, 180)), ("another's", amending(owners, blocks, 3, 2, 80, 29), (9, 2)),
-            ("a free place", amending(owners, blocks, 3, 1, 80, 29), (9, 1)), ("no such place", amending(owners, blocks, 3, 180, 80, 29), (9, 180)),
-            ("the largest number", amending(owners, blocks, 3, BLANK, 80, 29), (9, BLANK)), ("range", amending(owners, blocks, 4, 2, 80, 29), (3, 80)),
-            ("shared", amending(owners, blocks, 4, 2, 65, 1), (4, 1)), ("no lane", amending(owners, blocks, 4, 2, 50, 0), (5, 10))):
+            ("164 owners", amending(owners[1:], blocks, 0, 165, 93, 0), (1, 0)), ("a number too few", amending(owners, blocks[1:], 0, 165, 93, 0), (1, 0)),
+            ("entry 93", amending(owners, blocks, 0, 165, 93, 0), (2, 0)), ("no office", amending(owners, blocks, 0, 1, 92, 29), (9, 1)),
+            ("no office and no place", amending(owners, blocks, 0, 165, 92, 29), (9, 165)), ("another's", amending(owners, blocks, 3, 2, 92, 29), (9, 2)),
+            ("a free place", amending(owners, blocks, 3, 1, 92, 29), (9, 1)), ("no such place", amending(owners, blocks, 3, 165, 92, 29), (9, 165)),
+            ("the largest number", amending(owners, blocks, 3, BLANK, 92, 29), (9, BLANK)), ("range", amending(owners, blocks, 4, 2, 92, 29), (3, 92)),
+            ("lane factor", amending(owners, blocks, 4, 2, 11, 499), (3, 11)),
+            ("shared", amending(owners, blocks, 4, 2, 77, 1), (4, 1)), ("no lane", amending(owners, blocks, 4, 2, 60, 0), (5, 10))):
         check("amend, " + what, got, wanted)
     check("nothing amended", (owners, blocks), kept)
-    check("amended", (amending(owners, blocks, 4, 2, 80, 90), owners), ((0, 0), kept[0]))
-    check("one number", [at for at in range(14580) if blocks[at] != kept[1][at]], [162 + 80])
+    check("amended", (amending(owners, blocks, 4, 2, 92, 90), owners), ((0, 0), kept[0]))
+    check("a lane factor amended", amending(owners, blocks, 3, 0, 5, 871), (0, 0))
+    check("two numbers", [(at, blocks[at]) for at in range(15345) if blocks[at] != kept[1][at]], [(5, 871), (186 + 92, 90)])
 
 
 def check_open_reads():
     """Reads that are refused leave the sheet; a bad block is judged within itself, and an amendment may put it right."""
-    reading, sheet = icu2003.open_read, [7] * 209
+    reading, sheet = icu2003.open_read, [7] * 221
     owners, blocks = shared_study()
-    blocks[162:243] = BAD_CYCLE
+    blocks[186:279] = BAD_CYCLE
     for what, got, wanted in (
-            ("179 owners", reading(owners[1:], blocks, 0, 180, sheet), (1, 0)), ("a number too few", reading(owners, blocks[1:], 0, 180, sheet), (1, 0)),
-            ("208 cells", reading(owners, blocks, 0, 180, sheet[1:]), (1, 0)), ("no office", reading(owners, blocks, 0, 1, sheet), (9, 1)),
+            ("164 owners", reading(owners[1:], blocks, 0, 165, sheet), (1, 0)), ("a number too few", reading(owners, blocks[1:], 0, 165, sheet), (1, 0)),
+            ("220 cells", reading(owners, blocks, 0, 165, sheet[1:]), (1, 0)), ("no office", reading(owners, blocks, 0, 1, sheet), (9, 1)),
             ("another's", reading(owners, blocks, 3, 2, sheet), (9, 2)), ("a free place", reading(owners, blocks, 3, 1, sheet), (9, 1)),
-            ("no such place", reading(owners, blocks, 3, 181, sheet), (9, 181)), ("a bad block", reading(owners, blocks, 4, 2, sheet), (3, 80))):
+            ("no such place", reading(owners, blocks, 3, 165, sheet), (9, 165)), ("a bad block", reading(owners, blocks, 4, 2, sheet), (3, 92))):
         check("read, " + what, got, wanted)
-    check("sheet as it was", sheet, [7] * 209)
-    check("another entry of a bad block", icu2003.open_amend(owners, blocks, 4, 2, 1, 90), (3, 80))
-    check("put right", icu2003.open_amend(owners, blocks, 4, 2, 80, 90), (0, 0))
-    check("read then", (reading(owners, blocks, 4, 2, sheet), sheet), ((0, 0), fill(junctions.changed(BAD_CYCLE, {80: 90}))))
+    check("sheet as it was", sheet, [7] * 221)
+    check("another entry of a bad block", icu2003.open_amend(owners, blocks, 4, 2, 1, 90), (3, 92))
+    check("put right", icu2003.open_amend(owners, blocks, 4, 2, 92, 90), (0, 0))
+    check("read then", (reading(owners, blocks, 4, 2, sheet), sheet), ((0, 0), fill(junctions.changed(BAD_CYCLE, {92: 90}))))
     check("read by the other", (reading(owners, blocks, 3, 0, sheet), sheet), ((0, 0), sheet_of("K1")))
 
 
 def check_open_files():
-    rng = random.Random(59044)
-    lists = offices.any_study(rng, [1, 2, BLANK], [[rng.randrange(BLANK + 1) for _ in range(81)] for _ in range(9)])
+    rng = random.Random(62044)
+    lists = offices.any_study(rng, [1, 2, BLANK], [any_block(rng, 93) for _ in range(9)])
     data = icu2003.open_file(*lists)
-    check("bytes of an open study", (len(data), data[:4]), (59044, b"ICUO"))
+    check("bytes of an open study", (len(data), data[:4]), (62044, b"ICUO"))
     check("there and back", icu2003.open_lists(data), lists)
-    for other in (data[:-1], data + b"\0", b"ICUS" + data[4:], b"", data[:4], study(junctions.K1)):
+    for other in (data[:-1], data + b"\0", b"ICUT" + data[4:], b"", data[:4], study(junctions.K1), data[:59044]):
         check("no open study", icu2003.open_lists(other), None)
     check("no study file", icu2003.study_check(data), (6, 0))
 
@@ -1118,7 +1355,7 @@ def check_sample_offices():
         check("sample " + name, calls[name], wanted)
     city = junctions.changed(junctions.K1, {1: 140})
     for name, site, entries in (("6-city-reads", 1, city), ("7-county-reads", 2, NAMED["K2"])):
-        check("sample " + name, calls[name], (b"town.icuo, site %d of 180\n\n" % site + table.sheet_text(fill(entries)).encode(), b""))
+        check("sample " + name, calls[name], (b"town.icuo, site %d of 165\n\n" % site + table.sheet_text(fill(entries)).encode(), b""))
     check("sample 4-city-amends", calls["4-city-amends"], (table.change_text(sheet_of("K1"), fill(city)).encode(), b""))
 
 
@@ -1127,7 +1364,7 @@ def check_office_words():
     def said(words, **stood):
         return offices.run([word.encode() for word in words.split()], offices.Stood(**stood))[1].decode()
 
-    data = icu2003.open_file([1] * 180, junctions.K1 * 180)
+    data = icu2003.open_file([1] * 165, junctions.K1 * 165)
     amending = "s 1 amend 1 EBT volume 450"
     for words, stood, wanted in (
             ("s new", {"data": b""}, "s: there is such a file, which stays as it is: name another\n"),
@@ -1144,7 +1381,9 @@ def check_office_words():
             ("s 2 amend 1 EBT volume 99999", {"data": data}, "1: R9: the office has no site there\n"),
             ("s 1 amend 1 EBT volume 99999", {"data": data}, "1: R3: EBT volume is outside 0 to 9999\n"),
             ("s 1 amend 1 EBL lanes 0", {"data": data}, "1: R5: EBL: vehicles, and no lane that takes them\n"),
-            ("s 1 read 181", {"data": data}, "181: R9: the office has no site there\n"),
+            ("s 1 amend 1 EBT lane-factor 0.499", {"data": data}, "1: R3: EBT lane-factor is outside 0 or 0.5 to 1\n"),
+            ("s 2 amend 0 EBT lane-factor .9", {"data": data}, ".9: a factor is written as 0.971 or 1, or as 0 for the table's\n"),
+            ("s 1 read 166", {"data": data}, "166: R9: the office has no site there\n"),
             ("s 1 read x", {"data": data}, "x: R9: the office has no site there\n"),
             ("s 1 add t", {"data": data}, "t: cannot be read\n")):
         check("said of " + words, said(words, **stood), wanted)
@@ -1156,11 +1395,16 @@ def check_office_words():
 
 VALUES = (("lost-time", "4s", 4000), ("minimum-green", "4.5s", 4500), ("pedestrian-time", "4.125s", 4125), ("lost-time", "4000ms", 4000),
           ("lost-time", "0.007s", 7), ("lost-time", "04.50s", 4500), ("lost-time", "4294967.295s", BLANK), ("lost-time", "4294967295ms", BLANK),
-          ("volume", "0400", 400), ("cycle", "120", 120), ("lanes", "4294967295", BLANK))
+          ("volume", "0400", 400), ("cycle", "120", 120), ("lanes", "4294967295", BLANK),
+          ("lane-factor", "0.971", 971), ("lane-factor", "0.95", 950), ("lane-factor", "0.5", 500), ("lane-factor", "1", 1000),
+          ("lane-factor", "0", 0), ("lane-factor", "1.000", 1000), ("lane-factor", "00.870", 870), ("lane-factor", "0.0", 0),
+          ("lane-factor", "971", 971000), ("lane-factor", "0.001", 1), ("lane-factor", "4294967.295", BLANK))
 NO_TIMES = ("4", "4000", "", "s", "ms", "4.s", ".5s", "4.5ms", "4.1234s", "4.5.5s", "4 s", "4S", "4sec", "-4s", "+4s", "4,5s", "4e3ms")
 NO_NUMBERS = ("", "4s", "120s", "4000ms", "4.5", "-1", "+1", "1e3", "one")
+NO_FACTORS = ("", ".", ".9", "1.", "0.9710", "0.9.7", "0,97", "97%", "0.97s", "1ms", "-1", "+1", "1e0", "table", " 1", "0. 9")
 TOO_LARGE = (("lost-time", "4294967.296s"), ("lost-time", "4294968s"), ("lost-time", "4294967296ms"), ("lost-time", "99999999999.5s"),
-             ("volume", "4294967296"), ("cycle", "9" * 30))
+             ("volume", "4294967296"), ("cycle", "9" * 30), ("lane-factor", "4294967.296"), ("lane-factor", "4294968"),
+             ("lane-factor", "9" * 30))
 
 
 def said_of_value(kind, word):
@@ -1171,21 +1415,24 @@ def said_of_value(kind, word):
         return wrong.args[1]
 
 
+SAID_OF_VALUES = {"lost-time": "a time is written with its unit, as 4s, 4.5s or 4000ms", "volume": "a whole number without a unit is expected here",
+                  "lane-factor": "a factor is written as 0.971 or 1, or as 0 for the table's"}
+
+
 def again_value(kind, word):
-    """The same spelled again: the unit cut off, what stands before it taken as a decimal number of so many milliseconds."""
-    unit = 1
-    if kind in table.TIMES:
+    """The same spelled again: the unit cut off, what stands before it taken as a decimal number of so many milliseconds or thousandths."""
+    unit = 1000 if kind == "lane-factor" else 1
+    if kind == "lost-time":
         if word.endswith("ms"):
             word, unit = word[:-2], 1
         elif word.endswith("s"):
             word, unit = word[:-1], 1000
         else:
-            return "a time is written with its unit, as 4s, 4.5s or 4000ms"
+            return SAID_OF_VALUES[kind]
     parts = word.split(".")
     good = all(part and set(part) <= set("0123456789") for part in parts)
     if not good or len(parts) > (2 if unit == 1000 else 1) or len(parts[-1]) > 3 and len(parts) == 2:
-        return ("a time is written with its unit, as 4s, 4.5s or 4000ms" if kind in table.TIMES
-                else "a whole number without a unit is expected here")
+        return SAID_OF_VALUES[kind]
     value = int(Fraction(word) * unit)
     return value if value <= BLANK else "this number is too large"
 
@@ -1193,35 +1440,59 @@ def again_value(kind, word):
 def check_values(rounds):
     for kind, word, value in VALUES:
         check("value " + word, said_of_value(kind, word), value)
-    for word in NO_TIMES:
-        check("no time: " + word, said_of_value("lost-time", word), "a time is written with its unit, as 4s, 4.5s or 4000ms")
-    for word in NO_NUMBERS:
-        check("no number: " + word, said_of_value("volume", word), "a whole number without a unit is expected here")
+    for kind, words in (("lost-time", NO_TIMES), ("volume", NO_NUMBERS), ("lane-factor", NO_FACTORS)):
+        for word in words:
+            check("no %s: %s" % (kind, word), said_of_value(kind, word), SAID_OF_VALUES[kind])
     for kind, word in TOO_LARGE:
         check("too large: " + word, said_of_value(kind, word), "this number is too large")
     for value, word in ((4000, "4s"), (4500, "4.5s"), (4125, "4.125s"), (7, "0.007s"), (20, "0.02s"), (0, "0s"), (BLANK, "4294967.295s")):
         check("time as text", table.value_text("lost-time", value), word)
+    for value, word in ((0, "0"), (500, "0.5"), (970, "0.97"), (971, "0.971"), (1000, "1"), (1001, "1.001"), (971000, "971"), (BLANK, "4294967.295")):
+        check("factor as text", table.value_text("lane-factor", value), word)
+    check_said_of_texts()
     rng = random.Random(1000)
-    for _ in range(rounds):
-        kind = rng.choice(("lost-time", "volume"))
+    for _ in range(2 * rounds):
+        kind = rng.choice(("lost-time", "volume", "lane-factor"))
         word = "".join(rng.choice("0123456789.sm") for _ in range(rng.randrange(8))) + rng.choice(("", "s", "ms"))
         check("value spelled again: " + word, said_of_value(kind, word), again_value(kind, word))
         value = rng.choice((rng.randrange(BLANK + 1), rng.randrange(70000)))
         check("value there and back", said_of_value(kind, table.value_text(kind, value)), value)
 
 
+def check_said_of_texts():
+    """What is said of lane factors in a text, with line and column."""
+    for text, said in (
+            ("EBL lane-factor one", "line 1, column 17: a factor is written as 0.971 or 1, or as 0 for the table's"),
+            ("EBL lane-factor .9", "line 1, column 17: a factor is written as 0.971 or 1, or as 0 for the table's"),
+            ("EBL lane-factor 971", "line 1, column 17: R3: EBL lane-factor is outside 0 or 0.5 to 1"),
+            ("EBL lane-factor 0.499", "line 1, column 17: R3: EBL lane-factor is outside 0 or 0.5 to 1"),
+            ("EBL lane-factor 1.001", "line 1, column 17: R3: EBL lane-factor is outside 0 or 0.5 to 1"),
+            ("\nSBR lanes 1\n  lane-factor 0.001", "line 3, column 15: R3: SBR lane-factor is outside 0 or 0.5 to 1"),
+            ("EBL lane-factor 4294967.296", "line 1, column 17: this number is too large"),
+            ("EBL lane-factor", "line 1, column 16: the text ends where a value is expected"),
+            ("EB lane-factor 1", "line 1, column 4: what was named before has no such entry"),
+            ("EBL lane-factor 1 lane-factor 1", "line 1, column 19: this entry was written before"),
+            ("EBL lane-factors 1", "line 1, column 5: \"lane-factors\": no movement, approach or entry has this name")):
+        check("said of " + text, table.said_of(text.encode()), said + "\n")
+    for word, value in (("0.971", 971), ("1", 1000), ("0", 0), ("0.5", 500), ("0.50", 500)):
+        check("text with " + word, table.read_text(b"WBT lane-factor " + word.encode())[29], value)
+
+
 def main(rounds):
     for part in (check_k1_k2, check_k3_to_k10, check_listing, check_letters, check_layout,
-                 check_book_examples, check_named, check_bus_gates, check_closed_legs, check_refusals, check_decay,
-                 check_amend_answers, check_study_places, check_study_write, check_example_3, check_named_diamonds,
+                 check_book_examples, check_named, check_bus_gates, check_measured, check_rows, check_closed_legs, check_refusals, check_decay,
+                 check_amend_answers, check_study_places, check_long_files, check_study_write, check_runs, check_example_3, check_named_diamonds,
                  check_diamond_refusals, check_pages, check_open_adds, check_open_amendments, check_open_reads, check_open_files,
                  check_sample_offices, check_office_words):
         part()
     check_again(rounds)
+    check_widened(rounds)
+    check_factors(rounds)
     check_judge(rounds)
     check_reach(wanted=2 * rounds)
     check_history(rounds)
     check_study_round_trips(rounds=10)
+    check_old_studies(rounds=3)
     check_values(rounds)
     check_ratio(rounds)
     check_diamonds(rounds)

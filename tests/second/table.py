@@ -18,11 +18,12 @@ import junctions
 APPROACHES = ("EB", "WB", "NB", "SB")
 PAIRS = ("EB-WB", "NB-SB")
 GROUPS = [a + g for a in APPROACHES for g in "LTR"] + list(APPROACHES) + ["junction"]
-MOVEMENT_KINDS = ("lanes", "volume", "ideal-flow", "lost-time", "minimum-green")
+MOVEMENT_KINDS = ("lanes", "volume", "ideal-flow", "lost-time", "minimum-green", "lane-factor")
 APPROACH_KINDS = ("shared-lane", "pedestrians", "push-button", "pedestrian-time", "free-right")
-MOVEMENT_USUAL = (0, 0, 1900, 4000, 4000)
+MOVEMENT_USUAL = (0, 0, 1900, 4000, 4000, 0)
 APPROACH_USUAL = (0, 0, 0, 0, 0)
 TIMES = ("lost-time", "minimum-green", "pedestrian-time", "travel-time")  # kept in milliseconds, written with their unit
+FACTORS = ("lane-factor",)  # kept in thousandths, written as a decimal number without a unit
 
 
 # ---------------------------------------------------------------- entries by name
@@ -34,16 +35,17 @@ def kinds_of(group):
     return APPROACH_KINDS if group < 16 else ("cycle",)
 
 
-def entry_name(entry):
-    group = entry // 5
-    return GROUPS[group] + " " + kinds_of(group)[entry % 5]
-
-
-NAMED = {tuple(entry_name(i).split()): i for i in range(81)}
-KINDS = {kind for _, kind in NAMED}
+NAMES = [(name, kind) for group, name in enumerate(GROUPS) for kind in kinds_of(group)]  # of each entry, in their order
+NAMED = {names: entry for entry, names in enumerate(NAMES)}
+KINDS = {kind for _, kind in NAMES}
 TEXT_MOST = 65535
 WORD_MOST = 4096  # the bytes of an argument
-USUAL = [MOVEMENT_USUAL[i % 5] for i in range(60)] + [APPROACH_USUAL[i % 5] for i in range(20)] + [120]
+USUAL = list(12 * MOVEMENT_USUAL + 4 * APPROACH_USUAL) + [120]
+
+
+def entry_name(entry):
+    """The two words of an entry."""
+    return " ".join(NAMES[entry])
 
 
 # ---------------------------------------------------------------- values
@@ -52,26 +54,51 @@ class Wrong(Exception):
     """The first thing wrong with a text: its byte, and what is said of it."""
 
 
-def value_text(kind, value):
-    """A value as it is written: a time in seconds with its unit, anything else as a whole number."""
-    if kind not in TIMES:
-        return str(value)
+def thousandths_text(value):
+    """Thousandths as a decimal number, without zeros at its end."""
     whole, part = divmod(value, 1000)
-    return "%d%ss" % (whole, (".%03d" % part).rstrip("0").rstrip("."))
+    return "%d%s" % (whole, (".%03d" % part).rstrip("0").rstrip("."))
+
+
+def value_text(kind, value):
+    """A value as it is written: a time in seconds with its unit, a factor as a decimal number, anything else as a whole number."""
+    if kind in TIMES:
+        return thousandths_text(value) + "s"
+    return thousandths_text(value) if kind in FACTORS else str(value)
+
+
+def thousandths(whole, part):
+    """The thousandths of a decimal number: its digits before the point, and up to three behind it, if any."""
+    return 1000 * int(whole) + int((part or b"").ljust(3, b"0"))
+
+
+def time_of(word):
+    """The milliseconds that a word is, or Wrong without a place."""
+    found = re.fullmatch(rb"([0-9]+)ms|([0-9]+)(?:\.([0-9]{1,3}))?s", word)
+    if not found:
+        raise Wrong(None, "a time is written with its unit, as 4s, 4.5s or 4000ms")
+    ms, whole, part = found.groups()
+    return int(ms) if ms else thousandths(whole, part)
+
+
+def factor_of(word):
+    """The thousandths that a word is, or Wrong without a place."""
+    found = re.fullmatch(rb"([0-9]+)(?:\.([0-9]{1,3}))?", word)
+    if not found:
+        raise Wrong(None, "a factor is written as 0.971 or 1, or as 0 for the table's")
+    return thousandths(*found.groups())
+
+
+def whole_of(word):
+    """The whole number that a word is, or Wrong without a place."""
+    if not re.fullmatch(rb"[0-9]+", word):
+        raise Wrong(None, "a whole number without a unit is expected here")
+    return int(word)
 
 
 def value_of(kind, word):
     """The value that the bytes of a word are for an entry of that kind, or Wrong without a place."""
-    if kind in TIMES:
-        found = re.fullmatch(rb"([0-9]+)ms|([0-9]+)(?:\.([0-9]{1,3}))?s", word)
-        if not found:
-            raise Wrong(None, "a time is written with its unit, as 4s, 4.5s or 4000ms")
-        ms, whole, part = found.groups()
-        value = int(ms) if ms else 1000 * int(whole) + int((part or b"").ljust(3, b"0"))
-    else:
-        if not re.fullmatch(rb"[0-9]+", word):
-            raise Wrong(None, "a whole number without a unit is expected here")
-        value = int(word)
+    value = (time_of if kind in TIMES else factor_of if kind in FACTORS else whole_of)(word)
     if value >= 2**32:
         raise Wrong(None, "this number is too large")
     return value
@@ -79,30 +106,32 @@ def value_of(kind, word):
 
 def limits_text(entry):
     """The limits of an entry, as its values are written."""
-    kind = entry_name(entry).split()[1]
-    return "%s to %s" % tuple(value_text(kind, limit) for limit in icu2003.limits(entry))
+    kind = NAMES[entry][1]
+    text = "%s to %s" % tuple(value_text(kind, limit) for limit in icu2003.limits(entry))
+    return "0 or " + text if kind in FACTORS else text
 
 
 # ---------------------------------------------------------------- a junction as text
 
+def group_lines(shown):
+    """A line for each group that has an entry to show: its name, and these (entry, value) of it as they are written."""
+    out = []
+    for name in GROUPS:
+        values = [NAMES[entry][1] + " " + value_text(NAMES[entry][1], value) for entry, value in shown if NAMES[entry][0] == name]
+        if values:
+            out.append(" ".join([name] + values) + "\n")
+    return "".join(out)
+
+
 def write_text(entries):
     """A line for each group with all its entries."""
-    out = []
-    for group, name in enumerate(GROUPS):
-        values = [kind + " " + value_text(kind, entries[5 * group + j]) for j, kind in enumerate(kinds_of(group))]
-        out.append(" ".join([name] + values) + "\n")
-    return "".join(out)
+    return group_lines(list(enumerate(entries)))
 
 
 def brief_text(title, entries):
-    """As a person types it: a title, and what is not usual."""
-    out = ['title "%s"\n' % title]
-    for group, name in enumerate(GROUPS):
-        given = [kind + " " + value_text(kind, entries[5 * group + j]) for j, kind in enumerate(kinds_of(group))
-                 if entries[5 * group + j] != USUAL[5 * group + j] or group == 16]
-        if given:
-            out.append(" ".join([name] + given) + "\n")
-    return "".join(out)
+    """As a person types it: a title, what is not usual, and the cycle."""
+    unusual = [(entry, value) for entry, value in enumerate(entries) if value != USUAL[entry] or entry == icu2003.CYCLE]
+    return 'title "%s"\n' % title + group_lines(unusual)
 
 
 def unmarked(data):
@@ -152,7 +181,7 @@ def parse(data):
         name = word.decode("latin-1")
         if wanted is not None:
             try:
-                entries[wanted], places[wanted] = value_of(entry_name(wanted).split()[1], word), place
+                entries[wanted], places[wanted] = value_of(NAMES[wanted][1], word), place
             except Wrong as wrong:
                 raise Wrong(place, wrong.args[1])
             wanted = None
@@ -203,7 +232,7 @@ def read_text(data):
     entries, places = parse(unmarked(data))
     number, place = icu2003.judge(entries)
     if number:
-        entry = {3: place, 4: 60 + 5 * place, 5: 5 * place + 1}[number]
+        entry = {3: place, 4: icu2003.approach_entry(place, 0), 5: icu2003.movement_entry(place, 1)}[number]
         raise Wrong(places[entry], refusal_text(number, place))
     return entries
 
@@ -251,9 +280,11 @@ def change_of(words):
 
 # ---------------------------------------------------------------- the worksheet
 
-# (number, name, line of the book, unit), section by section; v is whole vehicles per hour, V those kept in tenths
+# (number, name, line of the book, unit), section by section; v is whole vehicles per hour, V those kept in tenths; f is a factor in
+# ten-thousandths, F a lane factor in thousandths
 ENTRY_ROWS = [(g, name, book, unit) for g in "LTR" for name, book, unit in (
-    ("lanes", "2", "n"), ("volume", "4", "v"), ("ideal flow", "9", "v"), ("lost time", "10", "s"), ("minimum green", "11", "s"))]
+    ("lanes", "2", "n"), ("volume", "4", "v"), ("ideal flow", "9", "v"), ("lost time", "10", "s"), ("minimum green", "11", "s"),
+    ("lane factor", "15", "F"))]
 APPROACH_ROWS = [("A", name, book, unit) for name, book, unit in (
     ("shared lane", "3", "n"), ("pedestrians", "5", "p"), ("push button", "6", "n"), ("pedestrian time", "7", "s"),
     ("free right", "8", "n"))]
@@ -290,6 +321,8 @@ def shown(unit, value):
         return "NA" if value == icu2003.BLANK else decimal(value, 3)
     if unit == "f":
         return decimal(value, 4)
+    if unit == "F":
+        return "table" if value == icu2003.BY_TABLE else decimal(value, 3)
     if unit in ("%", "V"):
         return decimal(value, 1)
     if unit == "A":
@@ -307,40 +340,41 @@ def printed(row, fields):
 def cell_rows():
     """(row, the names of its columns, the cells in them), in the order of the worksheet."""
     four, pair, one = list(APPROACHES), list(PAIRS), [""]
-    rows = [(r, four, [i + 15 * a for a in range(4)]) for i, r in enumerate(ENTRY_ROWS)]
-    rows += [(r, four, [60 + i + 5 * a for a in range(4)]) for i, r in enumerate(APPROACH_ROWS)]
-    rows += [(("J", "cycle, in seconds", "12", "n"), one, [80])]
+    rows = [(r, four, [i + 18 * a for a in range(4)]) for i, r in enumerate(ENTRY_ROWS)]
+    rows += [(r, four, [icu2003.approach_entry(a, i) for a in range(4)]) for i, r in enumerate(APPROACH_ROWS)]
+    rows += [(("J", "cycle, in seconds", "12", "n"), one, [icu2003.CYCLE])]
     rows += [(r, four, [icu2003.cell(a, k) for a in range(4)]) for k, r in enumerate(LINE_ROWS, 1)]
-    rows += [(r, pair, [193 + i, 197 + i]) for i, r in enumerate(PAIR_ROWS)]
-    rows += [(("R", "right turns", "45-50", "s"), four, [201, 202, 203, 204])]
-    rows += [(r, one, [205 + i]) for i, r in enumerate(LAST_ROWS)]
-    return rows + [(r, four, [209 + i + 5 * a for a in range(4)]) for i, r in enumerate(BESIDE_ROWS)]
+    rows += [(r, pair, [icu2003.PAIRS + i, icu2003.PAIRS + 4 + i]) for i, r in enumerate(PAIR_ROWS)]
+    rows += [(("R", "right turns", "45-50", "s"), four, [icu2003.LAST + a for a in range(4)])]
+    rows += [(r, one, [icu2003.LAST + 4 + i]) for i, r in enumerate(LAST_ROWS)]
+    return rows + [(r, four, [icu2003.CELLS + i + 5 * a for a in range(4)]) for i, r in enumerate(BESIDE_ROWS)]
 
 
-HEADINGS = {0: "entry", 21: "line", 49: "pair", 53: "junction", 58: "beside the lines"}
+HEADINGS = {0: "entry", 24: "line", 52: "pair", 56: "junction", 61: "beside the lines"}
 
 
 def stars(cells):
     """The cells that decide: the larger sum of a pair, the option of an approach, the picked total, the largest of the last."""
     line = lambda a, k: cells[icu2003.cell(a, k)]
     found = set()
-    for q, (one, other) in enumerate(((0, 1), (2, 3))):
-        if cells[193 + 4 * q] != icu2003.BLANK:
+    for one, other, at in ((0, 1, icu2003.PAIRS), (2, 3, icu2003.PAIRS + 4)):
+        if cells[at] != icu2003.BLANK:
             left, through = max(((one, other), (other, one)), key=lambda way: line(way[0], 16) + line(way[1], 17))
             found |= {icu2003.cell(left, 16), icu2003.cell(through, 17)}
-        found.add(193 + 4 * q + cells[196 + 4 * q])
+        found.add(at + cells[at + 3])
     for a in range(4):
         options = [(line(a, k), k) for k in (23, 24) if line(a, k) != icu2003.BLANK]
         if options and line(a, 1) + line(a, 2) > 0:
             found.add(icu2003.cell(a, min(options)[1]))
-    rights, combined = cells[201:205], cells[205]
-    found.add(201 + rights.index(max(rights)) if max(rights) > combined else 205)
+    last = icu2003.LAST
+    rights, combined = cells[last:last + 4], cells[last + 4]
+    found.add(last + rights.index(max(rights)) if max(rights) > combined else last + 4)
     return found
 
 
 def sheet_text(sheet):
     """The whole worksheet of a filled sheet, with what stands beside it."""
-    cells = sheet + icu2003.beside(sheet[:81])
+    cells = sheet + icu2003.beside(sheet[:icu2003.ENTRIES])
     starred = stars(sheet)
     out = []
     for at, (row, columns, where) in enumerate(cell_rows()):
@@ -358,8 +392,8 @@ def change_text(before, after):
     """A row for each cell that changed, in the cells' order; the ICU and the letter in any case. Without a sheet before, every cell."""
     found = {i: (row, name) for row, columns, where in cell_rows() for name, i in zip(columns, where)}
     out = [printed(("no", "changed cell", "book", ":"), ["where", "before", "after"])]
-    for i in range(209):
-        if before is None or before[i] != after[i] or i >= 207:
+    for i in range(icu2003.CELLS):
+        if before is None or before[i] != after[i] or i >= icu2003.LAST + 6:
             row, name = found[i]
             held = "none" if before is None else shown(row[3], before[i])
             out.append(printed(row, [name, held, shown(row[3], after[i])]))
@@ -409,6 +443,7 @@ AMENDMENTS = {
     "closed": "SB push-button 1",
     "button": "SB pedestrians 0",
     "gate": "NBL volume 91",
+    "measured": "EBT lane-factor 0",
 }
 
 TITLES = {
@@ -425,12 +460,14 @@ TITLES = {
     "closed": "A T junction: people cross at the closed leg, no button",
     "button": "A T junction: people cross at the closed leg, a button",
     "gate": "A bus gate of 1,000 an hour across the street of K1",
+    "measured": "Lanes counted one by one: two through, and a shared one",
 }
 
 
 def samples():
-    """(name, entries) of the thirteen junctions."""
-    named = junctions.k_junctions() + junctions.book_examples() + junctions.closed_legs() + junctions.street_gate()
+    """(name, entries) of the fourteen junctions."""
+    named = (junctions.k_junctions() + junctions.book_examples() + junctions.closed_legs() + junctions.street_gate()
+             + junctions.measured_street())
     return list(zip(TITLES, (entries for _, entries in named)))
 
 

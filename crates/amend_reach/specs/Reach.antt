@@ -6,7 +6,7 @@ use lib.Dec.{leb, ltb, eqb}
 use Rattle.layout.specs.Entries.{groupCount, movementEntries, approachesFrom, approachEntries, entryCount}
 use Rattle.layout.specs.Sheet.{lineCount, linesFrom, pairCells, pairsFrom, lastFrom}
 use Rattle.kinds.specs.declared.Kind.{Kind}
-use Rattle.kinds.specs.declared.Kind.the-variants.{Lanes, Volume, IdealFlow, LostTime, MinimumGreen, Cycle, Storage, TravelTime}
+use Rattle.kinds.specs.declared.Kind.the-variants.{Lanes, Volume, IdealFlow, LostTime, MinimumGreen, LaneFactor, Cycle, Storage, TravelTime}
 use Rattle.kinds.specs.declared.Kind.the-variants.{SharedLane, Pedestrians, PushButton, PedestrianTime, FreeRight}
 use Rattle.kinds.specs.Kinds.{kindAt}
 use Rattle.sheet_cells.specs.Cells.{opposite}
@@ -53,13 +53,14 @@ none-more = record { own = NoLine; facing = false; pair = false; everywhere = fa
 abbrev pub every-line : Reach
 every-line = record { own = All; facing = true; pair = true; everywhere = true }
 
--- the list: a row for each kind; no entry of a sheet is of the last two
+-- the list: a row for each kind; a measured lane factor "reaches what lanes reach"; no entry of a sheet is of the last two
 abbrev pub reachOf : Kind → Reach
 reachOf Lanes = both-ways
 reachOf Volume = both-ways
 reachOf IdealFlow = both-ways
 reachOf LostTime = own Times
 reachOf MinimumGreen = own Times
+reachOf LaneFactor = both-ways
 reachOf SharedLane = both-ways
 reachOf Pedestrians = own Walkers
 reachOf PushButton = own Button

@@ -98,6 +98,7 @@ impl Reach {
             Kind::IdealFlow => Reach::BOTH_WAYS,
             Kind::LostTime => Reach::TIMES,
             Kind::MinimumGreen => Reach::TIMES,
+            Kind::LaneFactor => Reach::BOTH_WAYS,
             Kind::SharedLane => Reach::BOTH_WAYS,
             Kind::Pedestrians => Reach::WALKERS,
             Kind::PushButton => Reach::BUTTON,

@@ -28,7 +28,7 @@ withChanges (c ∷ changes) e = withChanges changes (set e (c .entry) (c .value)
 unfoldable pub entriesWith : List ℕ → List Change → List ℕ
 entriesWith d changes = withChanges changes (take entryCount d)
 
--- 2 ENTRY: "amendment names an entry above 80"; place 0
+-- 2 ENTRY: "amendment names an entry above" 92; place 0
 unfoldable pub entryAnswer : ℕ → Answer
 entryAnswer i = refuse-if (ltb cycleEntry i) Entry 0
 

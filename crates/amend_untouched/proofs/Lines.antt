@@ -10,7 +10,7 @@ use Rattle.layout.specs.Entries.{freeNo}
 use Rattle.layout.specs.Sheet.{lineCount}
 use Rattle.lists.proofs.Tests.{values, each-below}
 use Rattle.procedure.specs.declared.Approach.{Approach}
-use Rattle.procedure.specs.Lines.{lines, firstLines, laterLines, a, b, volume, vST, fT, flow, sST, sSL, interference, F, reference, weighted}
+use Rattle.procedure.specs.Lines.{lines, firstLines, laterLines, a, b, volume, vST, fT, factor, flow, sST, sSL, interference, F, reference, weighted}
 use Rattle.procedure.specs.Lines.{crossed, nobodyDriving, adjusted, vLL, q, single, leftShare, E, sA, leftA, optionA, allowedA, allowedB}
 use Rattle.procedure.specs.Lines.{empty, line23, sB, optionB, line24, line25, line26, line27, line28}
 use Rattle.sheet_cells.proofs.Cells.{lines-long}
@@ -49,7 +49,7 @@ module _ (g : ℕ → ℕ) (s : Approach) (CL x : ℕ) where
   tables :
       (values (blended ownOf (own g s CL x) (lines (approachFrom g) s CL)) numberCount ≡ values (own g s CL x) numberCount)
       × (values (blended facingOf (opposed g s CL x) (lines s (approachFrom g) CL)) numberCount ≡ values (opposed g s CL x) numberCount)
-  unfolding mergedFrom lines firstLines laterLines a b volume vST fT flow sST sSL interference F reference weighted crossed nobodyDriving adjusted
+  unfolding mergedFrom lines firstLines laterLines a b volume vST fT factor flow sST sSL interference F reference weighted crossed nobodyDriving adjusted
       vLL q single leftShare E sA leftA optionA allowedA allowedB empty line23 sB optionB line24 line25 line26 line27 line28
   tables = (refl, refl)
 

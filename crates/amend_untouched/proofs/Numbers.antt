@@ -12,7 +12,7 @@ use lib.ListN.{length, getD, set}
 use lib.Seq.{getD-set-same, getD-set-other}
 use borrow.Author.Tests.{ltb-true, ltb-false, eqb-true, eqb-false, lt-ltb, le-ltb}
 use Rattle.layout.specs.Entries.{approachCount, groupCount, movementEntries, approachesFrom, approachEntries, cycleEntry, entryCount}
-use Rattle.layout.specs.Entries.{left, through, right, movementPlace, approachPlace, lanesNo, volumeNo, idealNo, lostNo, greenNo}
+use Rattle.layout.specs.Entries.{left, through, right, movementPlace, approachPlace, lanesNo, volumeNo, idealNo, lostNo, greenNo, factorNo}
 use Rattle.layout.specs.Entries.{sharedNo, walkersNo, buttonNo, crossingNo, freeNo}
 use Rattle.kinds.specs.declared.Kind.{Kind}
 use Rattle.kinds.specs.declared.Kind.the-variants.{Cycle}
@@ -38,6 +38,7 @@ movementFrom g m =
       ideal = record { 0 = record { 0 = g (movementPlace m idealNo) }; 1 = tt };
       lost = record { 0 = record { 0 = g (movementPlace m lostNo) }; 1 = tt };
       green = record { 0 = record { 0 = g (movementPlace m greenNo) }; 1 = tt };
+      measured = record { 0 = g (movementPlace m factorNo); 1 = tt };
     }
 
 abbrev pub approachFrom : (ℕ → ℕ) → Approach

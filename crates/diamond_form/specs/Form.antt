@@ -7,7 +7,7 @@ use lib.ListN.{getD}
 use lib.Dec.{eqb, ltb}
 use Rattle.text.specs.Text.{joined}
 use Rattle.layout.specs.Entries.{EB, WB, NB, SB, left, through, right, groupCount, movementPlace, approachPlace, cycleEntry}
-use Rattle.layout.specs.Entries.{lanesNo, volumeNo, idealNo, lostNo, greenNo, sharedNo, walkersNo, buttonNo, crossingNo, freeNo}
+use Rattle.layout.specs.Entries.{lanesNo, volumeNo, idealNo, lostNo, greenNo, factorNo, sharedNo, walkersNo, buttonNo, crossingNo, freeNo}
 use Rattle.layout.specs.Sheet.{sheetCount, linesOf}
 use Rattle.layout.specs.Diamond.{sideCount, sideTimes, storageCount, isolatedCell, alternateCell, combinedFrom, overlapCell, planFrom, bestCell}
 use Rattle.layout.specs.Diamond.{diamondIcu, diamondLetter, pageOwn, pageCells, pageVolumes, pageRooms, pageFits}
@@ -89,6 +89,7 @@ sideRows =
     "   lost time                   11 s mmmmmmm" from lostNo ∷
     "   minimum green               12 s mmmmmmm" from greenNo ∷
     "1  volume combined             16 v ggggggg" from 1 ∷
+    "   lane factor                 17 F mmmmmmm" from factorNo ∷
     "4  turning factor              18 f l  l l " from 4 ∷
     "5  flow                        19 V ggggggg" from 5 ∷
     "10 interference, right         20 s  l    l" from 10 ∷
@@ -120,7 +121,7 @@ wholeRows =
     []
 
 abbrev pub sideLines : ℕ
-sideLines = 23
+sideLines = 24
 
 abbrev pub wholeLines : ℕ
 wholeLines = 12

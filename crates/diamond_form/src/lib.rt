@@ -22,7 +22,7 @@ pub const ROW_END: usize = TITLE_WIDTH + FIELD_WIDTH * layout::SIDE_TIMES;
 pub const ROW_WIDTH: usize = ROW_END + 1;
 
 // The rows under a side's heading, and under that of the whole.
-const SIDE_LINES: usize = 23;
+const SIDE_LINES: usize = 24;
 
 const WHOLE_LINES: usize = 12;
 
@@ -60,6 +60,7 @@ const FORM: [u8; FORM_WIDTH * FORM_ROWS] = *b"\x20  lanes                       
     \x20  lost time                   11 s mmmmmmm\
     \x20  minimum green               12 s mmmmmmm\
     1  volume combined             16 v ggggggg\
+    \x20  lane factor                 17 F mmmmmmm\
     4  turning factor              18 f l  l l \
     5  flow                        19 V ggggggg\
     10 interference, right         20 s  l    l\
@@ -98,6 +99,7 @@ const FIRSTS: [usize; FORM_ROWS] = [
     layout::LOST_NO,
     layout::GREEN_NO,
     1,
+    layout::FACTOR_NO,
     4,
     5,
     10,

@@ -26,18 +26,19 @@ told =
 
 pub record Rows : Type 0 where
   pub west-names : row places 0 ≡ ascii "no west junction             book :        EBT        EBR        WBL        WBT        SBL        SBT        SBR"
-  pub west-lanes : row places 1 ≡ ascii "   lanes                        2 n          5         10         15         20         45         50         55"
-  pub east-lanes : row places 25 ≡ ascii "   lanes                        2 n        229        234        209        214        239        244        249"
-  pub walkers : row places 4 ≡ ascii "   pedestrians                  5 p         61                               66                    76           "
-  pub frees : row places 31 ≡ ascii "   free right                   8 n                   278                                                    283"
-  pub storages : row places 33 ≡ ascii "   storage                     10 n                              419                   421                      "
-  pub adjusted : row places 19 ≡ ascii "16 adjusted time               23 s      0.097      0.098      0.124      0.125      0.180      0.181      0.182"
-  pub factors : row places 37 ≡ ascii "4  turning factor              18 f     0.0321                           0.0293                0.0349           "
-  pub times : row places 44 ≡ ascii "   interchange time            24 s      0.430      0.431      0.432      0.433      0.434      0.435      0.436"
-  pub isolated : row places 49 ≡ ascii "   isolated time 1             28 s      0.437      0.438                                                       "
-  pub ratios : row told 23 ≡ ascii "   ratio below 1               27 y                               no                   yes                      "
-  pub lagging : row told 56 ≡ ascii "   lagging                     33 s         NA                                                                  "
-  pub lead-lag : row told 57 ≡ ascii "   lead-lag                    34 s *    0.447                                                                  "
+  pub west-lanes : row places 1 ≡ ascii "   lanes                        2 n          6         12         18         24         54         60         66"
+  pub east-lanes : row places 26 ≡ ascii "   lanes                        2 n        245        251        221        227        257        263        269"
+  pub walkers : row places 4 ≡ ascii "   pedestrians                  5 p         73                               78                    88           "
+  pub frees : row places 32 ≡ ascii "   free right                   8 n                   302                                                    307"
+  pub storages : row places 34 ≡ ascii "   storage                     10 n                              443                   445                      "
+  pub adjusted : row places 20 ≡ ascii "16 adjusted time               23 s      0.109      0.110      0.136      0.137      0.192      0.193      0.194"
+  pub lane-factors : row places 13 ≡ ascii "   lane factor                 17 F      0.011      0.017      0.023      0.029      0.059      0.065      0.071"
+  pub factors : row places 39 ≡ ascii "4  turning factor              18 f     0.0345                           0.0317                0.0373           "
+  pub times : row places 46 ≡ ascii "   interchange time            24 s      0.454      0.455      0.456      0.457      0.458      0.459      0.460"
+  pub isolated : row places 51 ≡ ascii "   isolated time 1             28 s      0.461      0.462                                                       "
+  pub ratios : row told 24 ≡ ascii "   ratio below 1               27 y                               no                   yes                      "
+  pub lagging : row told 58 ≡ ascii "   lagging                     33 s         NA                                                                  "
+  pub lead-lag : row told 59 ≡ ascii "   lead-lag                    34 s *    0.471                                                                  "
 
 pub read-so : Rows
 unfolding row places told table rowByte fieldByte headingBytes formBytes firstOf placeOf noText yesText shown numberByte digitByte dropped fields joined ascii
@@ -50,6 +51,7 @@ read-so =
       frees = refl;
       storages = refl;
       adjusted = refl;
+      lane-factors = refl;
       factors = refl;
       times = refl;
       isolated = refl;

@@ -2,14 +2,14 @@
 use mathlib.Core.Path.{_≡_, refl}
 use Rattle.units.specs.Rounding.{up}
 use Rattle.line_decay.specs.Decay.{term, turns, faded, decayNumber}
-use Rattle.line_factors.specs.Factors.{laneFactor}
+use Rattle.line_factors.specs.Factors.{laneFactor, factorOf}
 use Rattle.kinds.specs.Kinds.{kindAt}
 use Rattle.answers.specs.Answers.{inTurn}
 use Rattle.answers.specs.declared.Answer.the-variants.{Accepted}
 use Rattle.entries.specs.Layout.{movementEntry, approachEntry}
 use Rattle.entries.specs.Judging.{outside, badlyShared, otherLanes, unserved}
 use Rattle.procedure.specs.Approach.{readMovement, readApproach}
-use Rattle.procedure.specs.Lines.{a, b, volume, vST, turningT, fT, flowOf, flow, turningST, sST, sSL, G, interference, frequency, F, time, reference}
+use Rattle.procedure.specs.Lines.{a, b, volume, vST, turningT, fT, flowOf, factor, flow, turningST, sST, sSL, G, interference, frequency, F, time, reference}
 use Rattle.procedure.specs.Lines.{adjustedOf, weightedOf, weighted, crossed, nobodyDriving, adjusted}
 use Rattle.procedure.specs.Pairs.{picked, icuOf, endsPassed}
 use Rattle.diamond_rules.specs.Record.{west, east, bothAnswer, cyclesAnswer, storesAnswer, travelAnswer}
@@ -25,8 +25,8 @@ unfolding west east judgedRecord recordSize junctionsAnswer ownAnswer bothAnswer
 example3-accepted = refl
 
 pub example3-worked : diamond example3 ≡ cells3
-unfolding west east up term turns faded decayNumber laneFactor movementEntry approachEntry readMovement readApproach a b volume vST turningT fT flowOf
-    flow turningST sST sSL G interference frequency F time reference adjustedOf weightedOf weighted crossed nobodyDriving adjusted
+unfolding west east up term turns faded decayNumber laneFactor factorOf movementEntry approachEntry readMovement readApproach a b volume vST turningT fT flowOf
+    factor flow turningST sST sSL G interference frequency F time reference adjustedOf weightedOf weighted crossed nobodyDriving adjusted
     picked icuOf endsPassed interchange sideOf westSide eastSide below1 stored fits entering offRamp isolated alternate combined
     overlap held leadingAlternate isolatedPlan laggingAllowed leadLagAllowed bestOf sidesOf plansOf diamond
 example3-worked = refl

@@ -4,9 +4,9 @@ use Prim.Native.Nat.{ℕ}
 use Rattle.layout.specs.Sheet.{BLANK}
 use Rattle.diamond_rules.specs.Lines.{diamond}
 
--- lanes and volume; "The Ideal Saturation Flow is 2,000", "Minimum Green .. 4.0 seconds", "Lost Time .. 4.0 seconds"
+-- lanes and volume; "The Ideal Saturation Flow is 2,000", "Minimum Green .. 4.0 seconds", "Lost Time .. 4.0 seconds"; the table's lane factors
 abbrev pub movement : ℕ → ℕ → List ℕ
-movement lanes volume = lanes ∷ volume ∷ 2_000 ∷ 4_000 ∷ 4_000 ∷ []
+movement lanes volume = lanes ∷ volume ∷ 2_000 ∷ 4_000 ∷ 4_000 ∷ 0 ∷ []
 
 -- no movement there
 abbrev pub none : List ℕ

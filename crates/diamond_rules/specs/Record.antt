@@ -41,7 +41,7 @@ countedOn before (Refused why place) = Refused why (before + place)
 unfoldable pub bothAnswer : List ℕ → Fault → Answer
 bothAnswer r fault = eachAnswer (west r) fault then countedOn (countOf fault) (eachAnswer (east r) fault)
 
--- "same cycle, else 3 at 161"
+-- "same cycle, else 3" at its place, 185
 unfoldable pub cyclesAnswer : List ℕ → Answer
 cyclesAnswer r = refuse-if (not (eqb (cycle (west r)) (cycle (east r)))) OutOfRange eastCycle
 

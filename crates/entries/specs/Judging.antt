@@ -16,7 +16,7 @@ use Rattle.entries.specs.declared.Fault.{Fault}
 use Rattle.entries.specs.declared.Fault.the-variants.{Range, Shared, NoLane}
 use Rattle.entries.specs.Layout.{lanes, volume, shared}
 
--- 1 SIZE: "entries are not 81 numbers"; place 0
+-- 1 SIZE: entries are not 93 numbers; place 0
 unfoldable pub sizeAnswer : List ℕ → Answer
 sizeAnswer e = refuse-if (not (eqb (length e) entryCount)) Size 0
 

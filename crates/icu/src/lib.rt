@@ -21,7 +21,7 @@ fn tell(answer: Answer) -> IcuAnswer
     IcuAnswer { number, place }
 }
 
-// Fills a sheet of 209 numbers from 81 entries.
+// Fills a sheet of 221 numbers from 93 entries.
 #[no_mangle]
 pub extern "C" fn icu_fill(entries: &[u32], sheet: &mut [u32]) -> IcuAnswer
     ensures { λ r. ⌜ fillAllows (now (entries .entry)) (now (sheet .entry)) r (now (sheet .exit)) ⌝ }
@@ -53,7 +53,7 @@ pub extern "C" fn icu_study_count(file: &[u8]) -> u32
     study::count(file)
 }
 
-// Copies a site's 81 entries out of a study file.
+// Copies a site's 93 entries out of a study file; of one of before they are widened, with no measured lane factors.
 #[no_mangle]
 pub extern "C" fn icu_study_site(file: &[u8], site: u32, entries: &mut [u32]) -> IcuAnswer
     ensures { λ r. ⌜ siteAllows (now (file .entry)) site (now (entries .entry)) r (now (entries .exit)) ⌝ }
@@ -61,7 +61,7 @@ pub extern "C" fn icu_study_site(file: &[u8], site: u32, entries: &mut [u32]) ->
     tell(study::site_entries(file, site, entries))
 }
 
-// Writes a study file from the entries of its sites.
+// Writes a study file of today from the entries of its sites.
 #[no_mangle]
 pub extern "C" fn icu_study_write(entries: &[u32], out: &mut [u8]) -> IcuAnswer
     ensures { λ r. ⌜ writeAllows (now (entries .entry)) (now (out .entry)) r (now (out .exit)) ⌝ }
@@ -77,7 +77,7 @@ pub extern "C" fn icu_study_list(file: &[u8], out: &mut [u8], written: &mut u32)
     tell(study_listing::list(file, out, written))
 }
 
-// Rates a diamond interchange: 29 cells of its worksheet, from a record of 167 numbers.
+// Rates a diamond interchange: 29 cells of its worksheet, from a record of 191 numbers.
 #[no_mangle]
 pub extern "C" fn icu_diamond(record: &[u32], cells: &mut [u32]) -> IcuAnswer
     ensures { λ r. ⌜ diamondAllows (now («record» .entry)) (now (cells .entry)) r (now (cells .exit)) ⌝ }

@@ -27,16 +27,18 @@ use Rattle.amend_sets.proofs.Together.{taken, all-cells, amended-is-fresh}
 use Rattle.amend_sets.proofs.Runs.{run-is-fresh, run-keeps}
 use Rattle.lists.specs.Lists.{AllBelow, over}
 use Rattle.study_numbers.specs.Numbers.{numberLimit, byteLimit}
-use Rattle.study.specs.Study.{judgement, countOf, siteEntriesAnswer, siteEntries, writeAnswer, fileOf, fileBytes, sitesIn, entriesUpTo}
+use Rattle.study.specs.Study.{siteLimit, icut, formatOf, sitesOf, judgement, countOf, siteEntriesAnswer, siteEntries, writeAnswer, fileOf, fileBytes, sitesIn}
+use Rattle.study.specs.Study.{entriesUpTo, converted}
 use Rattle.study_theorems.proofs.Study as studies
-use Rattle.study_listing.specs.Listing.{listing, listAnswer}
+use Rattle.study_listing.specs.Listing.{siteLines, listingBy, listing, listAnswer}
+use Rattle.study_listing.proofs.Laws.{same-lines}
 use Rattle.layout.specs.Diamond.{diamondCount}
 use Rattle.diamond_rules.specs.Record.{judgedRecord, cellsSize, diamondAnswer}
 use Rattle.diamond_rules.specs.Lines.{diamond, rated}
 use Rattle.icu.specs.declared.IcuAnswer.{IcuAnswer}
 use Rattle.icu.specs.Told.{told}
 use Rattle.icu.specs.Calls.{fillAllows, amendAllows, siteAllows, writeAllows, listAllows, diamondAllows}
-use Rattle.icu_theorems.specs.Outcomes.{Yes, No, Run, GivenAgain}
+use Rattle.icu_theorems.specs.Outcomes.{Yes, No, Run, SitesGiven, GivenAgain, Converts}
 use Rattle.icu_theorems.proofs.Told.{told-yes, told-no, told-new}
 
 -- refused
@@ -156,13 +158,43 @@ written-and-read e old small allowed is =
     let leaves = allowed .1 ∙ sym (renewed (over old 0 (fileOf e)) old accepted) in
     rw leaves (studies.written-read e old small accepted)
 
-pub read-and-written : (file : List ℕ) → AllBelow byteLimit file → judgement file ≡ Accepted → GivenAgain file
-read-and-written file small good =
+pub sites-given : (file : List ℕ) → judgement file ≡ Accepted → SitesGiven file
+sites-given file good =
     record {
-      given = λ s h old sized allowed.
+      site = λ s h old sized allowed.
           told-new (siteEntries file s) old (allowed .0) (allowed .1) (studies.site-given file s (length old) good h sized);
+    }
+
+-- the file that the sites' entries are written as, where writing them is accepted
+written-again : (file old : List ℕ) {said : IcuAnswer} {left : List ℕ} → writeAnswer (entriesUpTo file (countOf file)) (length old) ≡ Accepted
+    → writeAllows (entriesUpTo file (countOf file)) old said left → Yes said × (left ≡ over old 0 (converted file))
+written-again file old accepted allowed = told-new (over old 0 (converted file)) old (allowed .0) (allowed .1) accepted
+
+pub read-and-written : (file : List ℕ) → AllBelow byteLimit file → judgement file ≡ Accepted → formatOf file ≡ icut → GivenAgain file
+read-and-written file small good today =
+    record {
+      given = sites-given file good;
       written = λ old room allowed.
-          let accepted = studies.accepted-again file (length old) good room in
-          let same = told-new (over old 0 (fileOf (entriesUpTo file (countOf file)))) old (allowed .0) (allowed .1) accepted in
-          (same .0, rw (studies.read-written file small good) at (same .1));
+          let same = written-again file old (studies.accepted-again file good today (length old) room) allowed in
+          (same .0, rw (studies.read-written file good today small) at (same .1));
+    }
+
+pub converts : (file : List ℕ) → AllBelow byteLimit file → judgement file ≡ Accepted → countOf file ≤ siteLimit → Converts file
+unfolding listing
+converts file small good few =
+    let back = studies.converted-back file good few small in
+    let same = studies.same-sites file good few small in
+    let has : countOf file ≡ sitesOf file = rw good in
+    let has-then : countOf (converted file) ≡ sitesOf (converted file) = rw (back .good) in
+    let counted : sitesOf (converted file) ≡ sitesOf file = sym has-then ∙ same .0 ∙ has in
+    record {
+      written = λ old room allowed. written-again file old (studies.convertible file good few (length old) room) allowed;
+      good = back .good;
+      count = same .0;
+      site = same .1;
+      listed =
+          ap (λ a. listingBy a (converted file)) (back .good)
+          ∙ ap (siteLines (converted file)) counted
+          ∙ same-lines (converted file) file (sitesOf file) (λ j h. same .1 j (rw good h))
+          ∙ sym (ap (λ a. listingBy a file) good);
     }

@@ -10,23 +10,24 @@ use mathlib.Core.List.{List, [], _∷_, map, replicate}
 use mathlib.Core.List.{length as size}
 use Prim.Native.Nat.{ℕ, _<_, _≤_, _*_, _/_}
 use lib.Dec.{eqb}
-use lib.ListN.{length, getD, set, take}
+use lib.ListN.{length, getD, set, take, drop}
+use borrow.Author.Tests.{ne-eqb}
 use Rattle.units.specs.Rounding.{up}
 use Rattle.units.specs.Unit.{flowUnit}
 use Rattle.answers.specs.Answers.{_then_, left-by, refusalNumber}
 use Rattle.answers.specs.declared.Refusal.{Refusal}
-use Rattle.answers.specs.declared.Refusal.the-variants.{Owner, Full}
+use Rattle.answers.specs.declared.Refusal.the-variants.{File, Owner, Full}
 use Rattle.answers.specs.declared.Answer.the-variants.{Accepted, Refused}
 use Rattle.layout.specs.Entries.{approachCount, entryCount}
 use Rattle.layout.specs.Sheet.{BLANK, sheetCount}
 use Rattle.entries.specs.Judging.{judged}
 use Rattle.kinds.specs.declared.Group.{Group}
-use Rattle.line_factors.specs.Factors.{laneFactor}
+use Rattle.line_factors.specs.Factors.{factorOf}
 use Rattle.procedure.specs.declared.Approach.{Approach}
 use Rattle.procedure.specs.Lines.{flowOf, flowA, time}
 use Rattle.procedure.specs.Ranges.{Fair, FairCycle}
 use Rattle.procedure.specs.Sheet.{sheet}
-use Rattle.procedure.specs.Junctions.{workedOut, given}
+use Rattle.procedure.specs.Junctions.{workedOut, given, measuredOut, measuredGiven}
 use Rattle.procedure.proofs.Compared.{compared}
 use Rattle.procedure.proofs.Finer as finer
 use Rattle.line_bounds.proofs.Permitted.{Refused as BlankMeans, lines-refused}
@@ -40,7 +41,13 @@ use Rattle.amend_sets.specs.Amend.{amendAnswer, amended, amendedBy, entriesBy, 
 use Rattle.amend_sets.proofs.Together.{all-stays, all-cells, all-fresh, one-answer, one-amended}
 use Rattle.lists.specs.Lists.{AllBelow}
 use Rattle.study_numbers.specs.Numbers.{numberLimit, byteLimit}
-use Rattle.study.specs.Study.{judgement, fileBytes, sitesIn}
+use Rattle.study_format.specs.Format as format
+use Rattle.study_before.specs.Before.{widened}
+use Rattle.before_theorems.specs.Before.{ByTheTable, judgedThen, cellsThen}
+use Rattle.before_theorems.proofs.Judged.{acceptable-kept}
+use Rattle.before_theorems.proofs.Kept as kept
+use Rattle.study.specs.Study.{siteLimit, icut, icus, formatOf, judgement, countOf, siteAnswer, siteEntries, fileBytes, sitesIn}
+use Rattle.study.proofs.Laws.{entries-before}
 use Rattle.study_theorems.proofs.Study as studies
 use Rattle.study_listing.specs.Listing.{listing}
 use Rattle.study_listing.proofs.Laws.{length-listing}
@@ -73,7 +80,7 @@ use Rattle.icu.specs.declared.IcuAnswer.{IcuAnswer}
 use Rattle.icu.specs.Told.{told}
 use Rattle.icu.specs.Calls.{fillAllows, amendAllows, siteAllows, writeAllows, listAllows, checkAllows, countAllows, diamondAllows, Allowed}
 use Rattle.icu.specs.Calls.{openAddAllows, openAmendAllows, openReadAllows}
-use Rattle.icu_theorems.specs.Outcomes.{Yes, No, toCompare, Run, GivenAgain}
+use Rattle.icu_theorems.specs.Outcomes.{Yes, No, toCompare, Run, SitesGiven, GivenAgain, Converts}
 use Rattle.icu_theorems.specs.Offices.{openAllows, Heard, OpenRun}
 use Rattle.icu_theorems.proofs.Junctions.{acceptable}
 use Rattle.icu_theorems.proofs.Outcomes as outcomes
@@ -165,20 +172,20 @@ pub refused-open-reading :
     {one : IcuAnswer} {left : List ℕ} (S : Study) (office s : ℕ) (d : List ℕ) → openReadAllows S office s d one left → No one → left ≡ d
 refused-open-reading = offices.refused-read
 
--- DEMAND 2. Acceptable entries and a sheet's 209 cells are accepted, and nothing else is ..
+-- DEMAND 2. Acceptable entries and a sheet's 221 cells are accepted, and nothing else is ..
 pub accepted-fill : {one : IcuAnswer} {left : List ℕ} (e d : List ℕ) → fillAllows e d one left → judged e ≡ Accepted → length d ≡ sheetCount → Yes one
 accepted-fill = outcomes.accepted-fill
 
 pub acceptable-only : {one : IcuAnswer} {left : List ℕ} (e d : List ℕ) → fillAllows e d one left → Yes one → (judged e ≡ Accepted) × (length d ≡ sheetCount)
 acceptable-only = outcomes.acceptable-only
 
--- .. and an accepted fill leaves the procedure, line by line: the 209 cells of `sheet e`. Its volumes are vehicles per hour; its flows,
+-- .. and an accepted fill leaves the procedure, line by line: the 221 cells of `sheet e`. Its volumes are vehicles per hour; its flows,
 -- lines 5–9 and 22, tenths of one (`flowUnit`), rounded down; its times milliseconds, rounded up.
 pub filled-sheet : {one : IcuAnswer} {left : List ℕ} (e d : List ℕ) → fillAllows e d one left → Yes one → left ≡ sheet e
 filled-sheet = outcomes.filled-sheet
 
 -- The smaller unit of flows, beside the rules that counted them in whole vehicles: a flow of lines 5–9 is the one of then, cut finer ..
-pub in-whole-vehicles : (g : Group) (i n f : ℕ) → flowOf g i n f / flowUnit ≡ cond (eqb n 0) 0 (i * n * laneFactor g n * f / 10_000_000)
+pub in-whole-vehicles : (i n factor f : ℕ) → flowOf i n factor f / flowUnit ≡ cond (eqb n 0) 0 (i * n * factor * f / 10_000_000)
 in-whole-vehicles = finer.whole-vehicles
 
 -- .. line 22, and L's own, made of it is no smaller ..
@@ -188,6 +195,15 @@ no-smaller-than-before = finer.line-22-no-smaller
 -- .. and a time by a flow that is no smaller is no longer than 1000·v·CL over the one of then.
 pub no-longer-than-before : (v CL flow before : ℕ) → 0 < before → flowUnit * before ≤ flow → time v CL flow ≤ up (1000 * v * CL) before
 no-longer-than-before = finer.no-longer
+
+-- A lane factor that was measured counts with any number of lanes; where none was, lanes carry what the table's factor gives them, as
+-- before there were measured ones: lines 5–7, 8 and 9.
+pub measured-counts : (g : Group) (n m : ℕ) → m ≢ 0 → factorOf g n m ≡ m
+unfolding factorOf
+measured-counts g n m some = rw (ne-eqb m 0 some)
+
+pub by-the-table : (s : Approach) → ByTheTable s
+by-the-table = kept.by-the-table
 
 -- Where nobody drives people still have time to cross: a T group without volume has reference time 0, and so have lines 25 and 27
 -- of an approach without L and T; lines 17, 26 and 28 are then the weighted formula's, of a reference time of 0, where there are
@@ -210,7 +226,11 @@ cells-fit e accepted k = sheet-fits e accepted .at k
 -- K1 to K10: every number that the rules give for them comes out of the definitions, and each junction is acceptable: so by
 -- `accepted-fill` and `filled-sheet` those numbers are what `icu_fill` leaves.
 pub junctions : (workedOut ≡ given) × (map judged toCompare ≡ replicate (size toCompare) Accepted)
-junctions = (compared, acceptable)
+junctions = (compared .0, acceptable)
+
+-- And so do those of two junctions whose lanes were measured, one lane and shared lanes among them.
+pub measured-junctions : measuredOut ≡ measuredGiven
+measured-junctions = compared .1
 
 -- A study file written and read back gives the same sites ..
 pub written-and-read :
@@ -218,12 +238,35 @@ pub written-and-read :
     → studies.ReadBack e (take (fileBytes (sitesIn e)) left)
 written-and-read = outcomes.written-and-read
 
--- .. and of a good file each site is given, its sites' entries are accepted for writing wherever there is room for the file, and
--- the bytes are the same.
-pub read-and-written : (file : List ℕ) → AllBelow byteLimit file → judgement file ≡ Accepted → GivenAgain file
+-- .. of a good file, of today ("ICUT") or of before ("ICUS"), each site is given ..
+pub sites-given : (file : List ℕ) → judgement file ≡ Accepted → SitesGiven file
+sites-given = outcomes.sites-given
+
+-- .. and of one of today its sites' entries are accepted for writing wherever there is room for the file, and the bytes are the same.
+pub read-and-written : (file : List ℕ) → AllBelow byteLimit file → judgement file ≡ Accepted → formatOf file ≡ icut → GivenAgain file
 read-and-written = outcomes.read-and-written
 
--- A file longer than any good one is judged by its first bytes, one more than the longest good one has: 59,049.
+-- A FILE OF BEFORE. What is given of its sites are the 81 entries that it holds, widened: no lane factor is measured ..
+pub old-sites : (file : List ℕ) (s : ℕ) → formatOf file ≡ icus → siteAnswer file s ≡ Accepted → siteEntries file s ≡ widened (format.siteEntries icus file s)
+old-sites = entries-before
+
+-- .. those that were acceptable are acceptable widened ..
+pub old-sites-accepted : (e : List ℕ) → judgedThen e ≡ Accepted → judged (widened e) ≡ Accepted
+old-sites-accepted = acceptable-kept
+
+-- .. and the sheet of widened entries has past its entries the lines, the pairs and the last eight that the rules of before give the 81.
+pub old-ratings-kept : (e : List ℕ) → drop entryCount (sheet (widened e)) ≡ cellsThen e
+old-ratings-kept = kept.rating-kept
+
+-- Written as a file of today, a good file of no more sites than one holds keeps its sites, each with its entries, and its listing.
+pub converted-keeps : (file : List ℕ) → AllBelow byteLimit file → judgement file ≡ Accepted → countOf file ≤ siteLimit → Converts file
+converted-keeps = outcomes.converts
+
+-- A reader of before refuses whatever opens as a file of today with 6 at place 0.
+pub old-reader-refuses : (file : List ℕ) → format.startsWith file (icut .opening) ≡ true → format.judgement icus file ≡ Refused File 0
+old-reader-refuses = studies.old-reader
+
+-- A file longer than any good one is judged by its first bytes, one more than the longest good one has: 62,049.
 pub long-file : (file : List ℕ) → studies.decisive ≤ length file → judgement (take studies.decisive file) ≡ judgement file
 long-file = studies.first-bytes-decide
 
@@ -421,7 +464,7 @@ module _ (S : Study) (office : ℕ) (e : List ℕ) (before : ℕ) {one : IcuAnsw
   pub full-only-if-none : one .number ≡ refusalNumber Full → (s : ℕ) → s < length (S .owners) → getD (S .owners) s free ≢ free
   full-only-if-none = offices.full-only S office e before allowed
 
--- THE ENGINEERS' TEXTS. Any 81 numbers of 32 bits, written as a junction's text and read, are the same numbers ..
+-- THE ENGINEERS' TEXTS. Any 93 numbers of 32 bits, written as a junction's text and read, are the same numbers ..
 pub written-as-text : (e : List ℕ) → length e ≡ entryCount → AllBelow numberLimit e → parsed (junctionText e) .entries ≡ e
 written-as-text = texts.entries-back
 

@@ -1,4 +1,5 @@
--- What the theorems say of outcomes of the calls: accepted and refused ones, runs of amendments, and a file that is given again.
+-- What the theorems say of outcomes of the calls: accepted and refused ones, runs of amendments, a file that is given again, and one that
+-- is converted.
 use mathlib.Core.Path.{_≡_}
 use mathlib.Core.List.{List, [], _∷_}
 use Prim.Native.Nat.{ℕ, _<_, _≤_}
@@ -7,7 +8,9 @@ use Rattle.layout.specs.Entries.{entryCount}
 use Rattle.procedure.specs.Junctions.{K1, K2, K3, K4, K7, K8, K9, K10}
 use Rattle.amend_sets.specs.Amend.{Change}
 use Rattle.lists.specs.Lists.{over}
-use Rattle.study.specs.Study.{countOf, siteEntries, entriesUpTo}
+use Rattle.answers.specs.declared.Answer.the-variants.{Accepted}
+use Rattle.study.specs.Study.{judgement, countOf, siteEntries, entriesUpTo, fileBytes, converted}
+use Rattle.study_listing.specs.Listing.{listing}
 use Rattle.icu.specs.declared.IcuAnswer.{IcuAnswer}
 use Rattle.icu.specs.Calls.{amendAllows, siteAllows, writeAllows}
 
@@ -34,9 +37,22 @@ unfoldable pub Run : List Change → List ℕ → List ℕ → Type 0
 Run [] d after = after ≡ d
 Run (c ∷ run) d after = Step d c (λ left. Run run left after)
 
--- each site of a file is given; its sites' entries are accepted wherever there is room for the file, and written as the same bytes
-pub record GivenAgain (file : List ℕ) : Type 0 where
-  pub given : (s : ℕ) → s < countOf file → {said : IcuAnswer} {left : List ℕ} (old : List ℕ) → length old ≡ entryCount
+-- each site of a file is given
+pub record SitesGiven (file : List ℕ) : Type 0 where
+  pub site : (s : ℕ) → s < countOf file → {said : IcuAnswer} {left : List ℕ} (old : List ℕ) → length old ≡ entryCount
       → siteAllows file s old said left → Yes said × (left ≡ siteEntries file s)
+
+-- and its sites' entries are accepted wherever there is room for the file, and written as the same bytes
+pub record GivenAgain (file : List ℕ) : Type 0 where
+  pub given : SitesGiven file
   pub written : {said : IcuAnswer} {left : List ℕ} (old : List ℕ) → length file ≤ length old
       → writeAllows (entriesUpTo file (countOf file)) old said left → Yes said × (left ≡ over old 0 file)
+
+-- written as a file of today, it has the same sites, each with its entries, and so the same listing
+pub record Converts (file : List ℕ) : Type 0 where
+  pub written : {said : IcuAnswer} {left : List ℕ} (old : List ℕ) → fileBytes (countOf file) ≤ length old
+      → writeAllows (entriesUpTo file (countOf file)) old said left → Yes said × (left ≡ over old 0 (converted file))
+  pub good : judgement (converted file) ≡ Accepted
+  pub count : countOf (converted file) ≡ countOf file
+  pub site : (s : ℕ) → s < countOf file → siteEntries (converted file) s ≡ siteEntries file s
+  pub listed : listing (converted file) ≡ listing file

@@ -1,12 +1,12 @@
-// Makes a study file of junctions' texts, and prints a study's sites as texts. What is printed, written and said is the calls'
-// to promise; the rest is input and output.
+// Makes a study file of junctions' texts, prints a study's sites as texts, and writes a study of before as one of today. What is
+// printed, written and said is the calls' to promise; the rest is input and output.
 use program_make::ALL_ENTRIES;
 use program_outcome::AREA_BYTES;
 use program_outcome::SAID_BYTES;
 use program_study::Job;
 use program_study::STUDY;
 
-// Room for the job, a study and a site.
+// Room for the job, a study, and a site or a file to write.
 const WORDS_BYTES: usize = 3 * program_io::WORD_ROOM;
 
 // Reads the text that an argument names, and adds its entries.
@@ -36,8 +36,8 @@ fn add_texts(texts: u32, all: &mut [u32; ALL_ENTRIES], said: &mut [u8; SAID_BYTE
     0
 }
 
-fn write_out(words: &[u8], written: &[u8; program_make::WRITTEN_BYTES], size: usize) {
-    let name = program_words::word(words, STUDY);
+// Writes a study to the file that an argument names.
+fn write_out(name: &[u8], written: &[u8; program_make::WRITTEN_BYTES], size: usize) {
     program_io::give(
         b"icustudy",
         name,
@@ -50,7 +50,7 @@ fn write_out(words: &[u8], written: &[u8; program_make::WRITTEN_BYTES], size: us
 fn write(words: &[u8], texts: u32, all: &[u32; ALL_ENTRIES]) {
     let mut written = [0u8; program_make::WRITTEN_BYTES];
     let size = program_make::make(texts, all, &mut written);
-    write_out(words, &written, size);
+    write_out(program_words::word(words, STUDY), &written, size);
 }
 
 fn make(words: &[u8], texts: u32) {
@@ -78,6 +78,17 @@ fn show(words: &[u8]) {
     program_io::say(&said, lengths.says);
 }
 
+fn convert(words: &[u8]) {
+    let mut area = [0u8; AREA_BYTES];
+    let mut written = [0u8; program_convert::WRITTEN_BYTES];
+    let mut said = [0u8; SAID_BYTES];
+    let input = program_io::read_named(program_words::word(words, STUDY), &mut area);
+    let lengths = program_convert::run(input, words, &area, &mut written, &mut said);
+    program_io::say(&said, lengths.says);
+    let name = program_words::word(words, program_convert::NEW);
+    write_out(name, &written, lengths.writes);
+}
+
 fn tell(job: Job) {
     let mut printed = [0u8; program_study::PRINTED_BYTES];
     let mut said = [0u8; SAID_BYTES];
@@ -92,6 +103,7 @@ fn run(words: &[u8]) {
     match job {
         Job::Make => make(words, program_study::texts_in(count)),
         Job::Show => show(words),
+        Job::Convert => convert(words),
         Job::TooMany => tell(job),
         Job::Use => tell(job),
         Job::Help => tell(job),

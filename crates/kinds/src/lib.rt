@@ -11,7 +11,7 @@ ghost use Rattle.kinds.specs.Kinds.{limitsOf, inRange, movementKind, app
 use units::Ms;
 use units::Vph;
 
-// From, to, and the value that is usual.
+// From, to, and the value that is usual, which may stand apart from the others.
 pub struct Limits {
     pub least: u32,
     pub most: u32,
@@ -135,6 +135,30 @@ impl MinimumGreen {
         ensures { λ r. ⌜ r .0 .0 ≡ limitsOf Kind.MinimumGreen .usual ⌝ }
     {
         MinimumGreen::new(MinimumGreen::LIMITS.usual)
+    }
+}
+
+// What the lanes of a movement carry of one lane each, as it was measured, in thousandths; 0, the usual value, for the table's.
+pub struct LaneFactor(pub u32, ());
+
+impl LaneFactor {
+    pub const LIMITS: Limits = Limits {
+        least: 500,
+        most: 1_000,
+        usual: 0,
+    };
+
+    pub fn new(value: u32) -> LaneFactor
+        requires { ⌜ inRange Kind.LaneFactor value ≡ true ⌝ }
+        ensures { λ r. ⌜ r .0 ≡ value ⌝ }
+    {
+        LaneFactor(value, ())
+    }
+
+    pub fn usual() -> LaneFactor
+        ensures { λ r. ⌜ r .0 ≡ limitsOf Kind.LaneFactor .usual ⌝ }
+    {
+        LaneFactor::new(LaneFactor::LIMITS.usual)
     }
 }
 
@@ -336,6 +360,7 @@ pub enum Kind {
     IdealFlow,
     LostTime,
     MinimumGreen,
+    LaneFactor,
     SharedLane,
     Pedestrians,
     PushButton,
@@ -356,6 +381,7 @@ impl Kind {
             Kind::IdealFlow => IdealFlow::LIMITS,
             Kind::LostTime => LostTime::LIMITS,
             Kind::MinimumGreen => MinimumGreen::LIMITS,
+            Kind::LaneFactor => LaneFactor::LIMITS,
             Kind::SharedLane => SharedLane::LIMITS,
             Kind::Pedestrians => Pedestrians::LIMITS,
             Kind::PushButton => PushButton::LIMITS,
@@ -377,6 +403,7 @@ impl Kind {
             Kind::IdealFlow => IdealFlow::usual().0.0,
             Kind::LostTime => LostTime::usual().0.0,
             Kind::MinimumGreen => MinimumGreen::usual().0.0,
+            Kind::LaneFactor => LaneFactor::usual().0,
             Kind::SharedLane => SharedLane::usual().0,
             Kind::Pedestrians => Pedestrians::usual().0,
             Kind::PushButton => PushButton::usual().0,
@@ -398,7 +425,8 @@ impl Kind {
             1 => Kind::Volume,
             2 => Kind::IdealFlow,
             3 => Kind::LostTime,
-            _ => Kind::MinimumGreen,
+            4 => Kind::MinimumGreen,
+            _ => Kind::LaneFactor,
         }
     }
 
@@ -429,11 +457,14 @@ impl Kind {
         Kind::Cycle
     }
 
-    // Whether the value lies within the kind's limits.
+    // Whether the value is the kind's usual one or lies within its limits.
     pub fn holds(self, value: u32) -> bool
         ensures { λ r. ⌜ r ≡ inRange self value ⌝ }
     {
         let limits = self.limits();
+        if value == limits.usual {
+            return true;
+        }
         if value < limits.least {
             return false;
         }

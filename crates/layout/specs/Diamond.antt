@@ -1,4 +1,4 @@
--- Request Two, "The record has 167 numbers: the west junction's entries, the east's .., storages .. for WB left, EB left, the road
+-- Request Two, the record, of 191 numbers with Request Six: "the west junction's entries, the east's .., storages .. for WB left, EB left, the road
 -- eastbound (west ramp's left) and westbound, travel time": where each stands; and where the 29 cells do that are worked out of them.
 use Prim.Native.Nat.{ℕ, _+_, _*_}
 use Rattle.layout.specs.Entries.{entryCount, cycleEntry}
@@ -8,7 +8,7 @@ use Rattle.layout.specs.Sheet.{sheetCount}
 abbrev pub eastFrom : ℕ
 eastFrom = entryCount
 
--- "same cycle, else 3 at 161"
+-- "same cycle, else 3" at its place, 185
 abbrev pub eastCycle : ℕ
 eastCycle = eastFrom + cycleEntry
 

@@ -1,4 +1,4 @@
--- "The 81 entries": how many there are of each, and where each stands, every number from those before it.
+-- "The entries", 93 with Request Six: how many there are of each, and where each stands, every number from those before it.
 use Prim.Native.Nat.{ℕ, _+_, _*_}
 
 -- "Approaches stand in the order EB, WB, NB, SB (0 to 3)"
@@ -13,7 +13,8 @@ groupCount = 3
 abbrev pub movementCount : ℕ
 movementCount = groupCount * approachCount
 
--- "Movement m has entries 5m to 5m+4: lanes, vehicles per hour, ideal flow, lost time, minimum green"
+-- "Movement m has entries 6m to 6m+5": "lanes, vehicles per hour, ideal flow, lost time, minimum green", and "a sixth entry, its
+-- measured lane factor"
 abbrev pub lanesNo : ℕ
 lanesNo = 0
 
@@ -29,10 +30,13 @@ lostNo = 3
 abbrev pub greenNo : ℕ
 greenNo = 4
 
-abbrev pub movementEntries : ℕ
-movementEntries = 5
+abbrev pub factorNo : ℕ
+factorNo = 5
 
--- "Approach a has 60+5a onward": past the movements' entries
+abbrev pub movementEntries : ℕ
+movementEntries = 6
+
+-- "Approach a 72+5a onward": past the movements' entries
 abbrev pub approachesFrom : ℕ
 approachesFrom = movementEntries * movementCount
 
@@ -55,7 +59,7 @@ freeNo = 4
 abbrev pub approachEntries : ℕ
 approachEntries = 5
 
--- "Entry 80 is the cycle": past the approaches' entries
+-- "The cycle is entry 92": past the approaches' entries
 abbrev pub cycleEntry : ℕ
 cycleEntry = approachesFrom + approachEntries * approachCount
 

@@ -1,10 +1,10 @@
--- Request Three, "one open study of 180 places": how many there are, and where each site's entries stand among the blocks.
+-- Request Three, "one open study", of 165 places with Request Six: how many there are, and where each site's entries stand among the blocks.
 use Prim.Native.Nat.{ℕ, _+_, _*_}
 use Rattle.layout.specs.Entries.{entryCount}
 
--- "180 places"
+-- "165 places"
 abbrev pub placeCount : ℕ
-placeCount = 180
+placeCount = 165
 
 -- "the blocks": of each place as many numbers as a junction has entries
 abbrev pub blocksCount : ℕ

@@ -1,4 +1,4 @@
--- "The sheet is 81 entries, 28 lines of each approach, 4 cells of each pair, the last 8.": where each cell stands.
+-- The sheet is the entries, "28 lines of each approach, 4 cells of each pair, the last 8", 221 with Request Six: where each cell stands.
 use Prim.Native.Nat.{ℕ, _+_, _*_, _/_}
 use Rattle.layout.specs.Entries.{approachCount, entryCount}
 

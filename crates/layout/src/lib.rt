@@ -30,7 +30,9 @@ pub const LOST_NO: usize = 3;
 
 pub const GREEN_NO: usize = 4;
 
-pub const MOVEMENT_ENTRIES: usize = 5;
+pub const FACTOR_NO: usize = 5;
+
+pub const MOVEMENT_ENTRIES: usize = 6;
 
 // The first entry of the first approach.
 pub const APPROACHES_FROM: usize = MOVEMENT_ENTRIES * MOVEMENTS;
@@ -153,6 +155,6 @@ pub const PAGE_FITS: usize = PAGE_ROOMS + STORAGES;
 pub const DIAMOND_PAGE: usize = PAGE_FITS + STORAGES;
 
 // An open study: its places, and the numbers of all their blocks.
-pub const PLACES: usize = 180;
+pub const PLACES: usize = 165;
 
 pub const BLOCKS: usize = ENTRIES * PLACES;

@@ -12,21 +12,21 @@ use Rattle.units.specs.Unit.{flowUnit, whole}
 use Rattle.layout.specs.Entries.{groupCount}
 use Rattle.kinds.specs.declared.Group.{Group}
 use Rattle.kinds.specs.declared.Group.the-variants.{Left, Through, Right}
-use Rattle.kinds.specs.declared.Kind.the-variants.{Lanes, Volume, IdealFlow}
+use Rattle.kinds.specs.declared.Kind.the-variants.{Lanes, Volume, IdealFlow, LaneFactor}
 use Rattle.kinds.specs.Kinds.{limitsOf, Within}
 use Rattle.kinds.specs.Working.{mostOf}
-use Rattle.line_factors.specs.Factors.{laneFactor}
+use Rattle.line_factors.specs.Factors.{laneFactor, factorOf}
 use Rattle.procedure.specs.declared.Approach.{Approach}
-use Rattle.procedure.specs.Approach.{n, v, i, isShared}
-use Rattle.procedure.specs.Lines.{a, b, volume, vC, vST, turningT, fT, flowOf, f, flow, turningST, sST, sSL}
+use Rattle.procedure.specs.Approach.{n, v, i, measured, isShared}
+use Rattle.procedure.specs.Lines.{a, b, volume, vC, vST, turningT, fT, flowOf, f, factor, flow, turningST, sST, sSL}
 use Rattle.procedure.specs.Ranges.{Fair}
 use Rattle.line_bounds.specs.Bounds.{mostVolume, leastTurning, leastStraight, leastFactor, mostFactor, leastLaneFlow, mostFlow, mostServed}
 use Rattle.line_bounds.proofs.Numbers.{Between, quotient-between}
 
 -- ---- over plain numbers
 
--- the lane factor of a group with a lane
-pub lane-between : (g : Group) (n : ℕ) → 0 < n → Between leastFactor mostFactor (laneFactor g n)
+-- the table's factor of a group with a lane
+lane-between : (g : Group) (n : ℕ) → 0 < n → Between leastFactor mostFactor (laneFactor g n)
 unfolding laneFactor
 lane-between g zero h = omega arith
 lane-between g (suc zero) h = record { least = lit≤ tt; most = lit≤ tt }
@@ -36,6 +36,15 @@ lane-between Through (suc (suc zero)) h = record { least = lit≤ tt; most = lit
 lane-between Through (suc (suc (suc n))) h = record { least = lit≤ tt; most = lit≤ tt }
 lane-between Right (suc (suc zero)) h = record { least = lit≤ tt; most = lit≤ tt }
 lane-between Right (suc (suc (suc n))) h = record { least = lit≤ tt; most = lit≤ tt }
+
+-- and the one that counts: measured, or the table's
+pub factor-bounds : (g : Group) (n m : ℕ) → 0 < n → Within LaneFactor m → Between leastFactor mostFactor (factorOf g n m)
+unfolding factorOf
+factor-bounds g n m some fair = go (eqb m 0) refl
+  where
+    go : (t : Bool) → eqb m 0 ≡ t → Between leastFactor mostFactor (cond t (laneFactor g n) m)
+    go true e = lane-between g n some
+    go false e = record { least = fair .apart (eqb-false m 0 e); most = fair .most }
 
 -- turns among v vehicles leave between 85 and 100, and between 95 and 100, of each hundred
 pub turning-product :
@@ -115,21 +124,21 @@ flow-room i n k f p q r t =
     record { two = mul-le-mul p q; three = mul-le-mul (mul-le-mul p q) r; four = mul-le-mul (mul-le-mul (mul-le-mul p q) r) t }
 
 pub flow-between :
-    (g : Group) (i n f : ℕ) → Within IdealFlow i → n ≤ mostOf Lanes → Between leastTurning whole f
-    → Between (leastLaneFlow * n) mostFlow (flowOf g i n f)
+    (i n k f : ℕ) → Within IdealFlow i → n ≤ mostOf Lanes → (0 < n → Between leastFactor mostFactor k) → Between leastTurning whole f
+    → Between (leastLaneFlow * n) mostFlow (flowOf i n k f)
 unfolding flowOf
-flow-between g i n f p q r = go (eqb n 0) refl
+flow-between i n k f p q lane r = go (eqb n 0) refl
   where
     least : ℕ
     least = limitsOf IdealFlow .least
 
-    go : (t : Bool) → eqb n 0 ≡ t → Between (leastLaneFlow * n) mostFlow (cond t 0 (i * n * laneFactor g n * f / (10_000_000 / flowUnit)))
+    go : (t : Bool) → eqb n 0 ≡ t → Between (leastLaneFlow * n) mostFlow (cond t 0 (i * n * k * f / (10_000_000 / flowUnit)))
     go true e = record { least = omega (arith, eqb-true n 0 e); most = lit≤ tt }
     go false e =
-        let k = lane-between g n (omega (arith, eqb-false n 0 e)) in
-        let low : least * n * leastFactor * leastTurning ≤ i * n * laneFactor g n * f =
-        mul-le-mul (mul-le-mul (mul-le-mul (p .least) (omega arith)) (k .least)) (r .least) in
-        let room = flow-room i n (laneFactor g n) f (p .most) q (k .most) (r .most) in
+        let share = lane (omega (arith, eqb-false n 0 e)) in
+        let low : least * n * leastFactor * leastTurning ≤ i * n * k * f =
+        mul-le-mul (mul-le-mul (mul-le-mul (p .least) (omega arith)) (share .least)) (r .least) in
+        let room = flow-room i n k f (p .most) q (share .most) (r .most) in
         record { least = omega (arith, low); most = omega (arith, room .four) }
 
 -- a volume of v that n lanes of that flow serve
@@ -139,14 +148,14 @@ pub record Serving (v n flow : ℕ) : Type 0 where
   pub serves : flowUnit * v ≤ mostServed * flow
 
 pub serving :
-    (g : Group) (i n f v : ℕ) → Within IdealFlow i → n ≤ mostOf Lanes → Between leastTurning whole f
+    (i n k f v : ℕ) → Within IdealFlow i → n ≤ mostOf Lanes → (0 < n → Between leastFactor mostFactor k) → Between leastTurning whole f
     → v ≤ mostVolume → (0 < v → 0 < n)
-    → Serving v n (flowOf g i n f)
-serving g i n f v p q r m h =
-    let w = flow-between g i n f p q r in
+    → Serving v n (flowOf i n k f)
+serving i n k f v p q lane r m h =
+    let w = flow-between i n k f p q lane r in
     record { least = w .least; most = w .most; serves = go w (decLt 0 v) }
   where
-    go : Between (leastLaneFlow * n) mostFlow (flowOf g i n f) → Dec (0 < v) → flowUnit * v ≤ mostServed * flowOf g i n f
+    go : Between (leastLaneFlow * n) mostFlow (flowOf i n k f) → Dec (0 < v) → flowUnit * v ≤ mostServed * flowOf i n k f
     go w (yes z) = omega (arith, h z, w .least)
     go w (no z) = omega arith
 
@@ -239,19 +248,25 @@ module _ (s : Approach) (ok : Fair s) where
       turning-between (vC s) (a s) (b s) (omega (arith, parted s .through)) (omega (arith, parted s .through))
   factor-between Right = record { least = lit≤ tt; most = lit≤ tt }
 
+  -- the lane factor of lanes of a group
+  share-between : (g : Group) (n : ℕ) → 0 < n → Between leastFactor mostFactor (factorOf g n (measured s g))
+  share-between g n some = factor-bounds g n (measured s g) some (ok .group g .measured)
+
   -- lines 5–7
   pub group-serving : (g : Group) → Serving (volume s g) (n s g) (flow s g)
-  unfolding flow
+  unfolding flow factor
   group-serving g =
-      serving g (i s g) (n s g) (f s g) (volume s g) (ok .group g .ideal) (ok .group g .lanes .most) (factor-between g) (volumes .all g) (ok .served g)
+      serving (i s g) (n s g) (factor s g) (f s g) (volume s g) (ok .group g .ideal) (ok .group g .lanes .most) (share-between g (n s g))
+      (factor-between g) (volumes .all g) (ok .served g)
 
   -- line 8
   pub straight-serving : Serving (vST s) (n s Through) (sST s)
-  unfolding sST
+  unfolding sST factor
   straight-serving =
       let p = parted s in
       let t = straight-between (vST s) (a s) (omega (arith, p .straight)) in
-      serving Through (i s Through) (n s Through) (turningST (vST s) (a s)) (vST s) (ok .group Through .ideal) (ok .group Through .lanes .most)
+      serving (i s Through) (n s Through) (factor s Through) (turningST (vST s) (a s)) (vST s) (ok .group Through .ideal)
+      (ok .group Through .lanes .most) (share-between Through (n s Through))
       (record { least = omega (arith, t .least); most = t .most })
       (omega (arith, volumes .straight, volumes .through))
       (λ h. ok .served Through (omega (arith, p .straight, p .through)))
@@ -261,14 +276,19 @@ module _ (s : Approach) (ok : Fair s) where
   unfolding sSL volume
   lefts-serving = go (isShared s) refl
     where
-      go : (t : Bool) → isShared s ≡ t → Serving (v s Left) (cond t 1 (n s Left)) (cond t (flowOf Left (i s Left) 1 (f s Left)) (flow s Left))
+      share : ℕ
+      share = factorOf Left 1 (measured s Left)
+
+      go : (t : Bool) → isShared s ≡ t → Serving (v s Left) (cond t 1 (n s Left)) (cond t (flowOf (i s Left) 1 share (f s Left)) (flow s Left))
       go true e =
-          serving Left (i s Left) 1 (f s Left) (v s Left) (ok .group Left .ideal) (lit≤ tt) (factor-between Left)
+          serving (i s Left) 1 share (f s Left) (v s Left) (ok .group Left .ideal) (lit≤ tt) (share-between Left 1) (factor-between Left)
           (omega (arith, ok .group Left .counted .most)) (λ h. lit≤ tt)
       go false e =
           let all : volume s Left ≡ v s Left = rw e in
           rw all at (group-serving Left)
 
   -- what the flow of a group asks
-  pub flow-ready : (g : Group) (f : ℕ) → f ≤ whole → (i s g ≤ mostOf IdealFlow) × (n s g ≤ mostOf Lanes) × (f ≤ whole)
-  flow-ready g f h = (ok .group g .ideal .most, ok .group g .lanes .most, h)
+  pub flow-ready :
+      (g : Group) (f : ℕ) → f ≤ whole
+      → (i s g ≤ mostOf IdealFlow) × (n s g ≤ mostOf Lanes) × (measured s g ≤ mostOf LaneFactor) × (f ≤ whole)
+  flow-ready g f h = (ok .group g .ideal .most, ok .group g .lanes .most, ok .group g .measured .most, h)

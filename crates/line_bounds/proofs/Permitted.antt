@@ -55,10 +55,10 @@ beside-most K T S n h k p r =
     le-div-iff-mul-le {k = 10_000_000 / flowUnit} {x = F * (n - 1) / n} {y = K * S} (omega arith) .1 (omega arith)
 
 flow-beside :
-    (i n T S : ℕ) → T ≤ whole → leastStraight ≤ S → 0 < n → n ≤ mostOf Lanes
-    → flowOf Through i n T * (n - 1) / n ≤ flowOf Through i n S
+    (i n share T S : ℕ) → T ≤ whole → leastStraight ≤ S → 0 < n → n ≤ mostOf Lanes
+    → flowOf i n share T * (n - 1) / n ≤ flowOf i n share S
 unfolding flowOf
-flow-beside i n T S h k p r = rw (ne-eqb n 0 (λ (e : n ≡ 0). omega arith)) (beside-most _ T S n h k p r)
+flow-beside i n share T S h k p r = rw (ne-eqb n 0 (λ (e : n ≡ 0). omega arith)) (beside-most _ T S n h k p r)
 
 -- only a shared lane folds lefts
 unfolded : (s : Approach) → isShared s ≡ false → b s ≡ 0
@@ -71,7 +71,7 @@ shared-beside s fair e =
     let some : 0 < n s Through = fair .shares e in
     let most = turning-between (vC s) (a s) (b s) (omega arith) (omega arith) in
     let least = straight-between (vST s) (a s) (omega arith) in
-    rw e (flow-beside (i s Through) (n s Through) _ _ (most .most) (least .least) some (fair .group Through .lanes .most))
+    rw e (flow-beside (i s Through) (n s Through) _ _ _ (most .most) (least .least) some (fair .group Through .lanes .most))
 
 -- "8,000 − ⌊8000·sB/sST⌋" is never below 0: the flow beside a waiting left is at most the flow without lefts
 pub sB-most : (s : Approach) → Fair s → sB s ≤ sST s

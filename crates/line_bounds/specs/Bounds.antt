@@ -5,7 +5,7 @@ use Prim.Native.Nat.{ℕ, _+_, _*_, _/_, _≤_, max}
 use Rattle.units.specs.Unit.{flowUnit, whole}
 use Rattle.layout.specs.Entries.{groupCount}
 use Rattle.layout.specs.Sheet.{BLANK}
-use Rattle.kinds.specs.declared.Kind.the-variants.{Lanes, Volume, IdealFlow, LostTime, MinimumGreen, PedestrianTime, Cycle}
+use Rattle.kinds.specs.declared.Kind.the-variants.{Lanes, Volume, IdealFlow, LostTime, MinimumGreen, LaneFactor, PedestrianTime, Cycle}
 use Rattle.kinds.specs.Kinds.{limitsOf}
 use Rattle.kinds.specs.Working.{mostOf}
 use Rattle.procedure.specs.Pairs.{line}
@@ -22,21 +22,21 @@ leastTurning = 85 * 95
 abbrev pub leastStraight : ℕ
 leastStraight = 85 * 100
 
--- Table 5-2, in thousandths
+-- a lane factor in thousandths: none of Table 5-2 is outside of what may be measured
 abbrev pub leastFactor : ℕ
-leastFactor = 885
+leastFactor = limitsOf LaneFactor .least
 
 abbrev pub mostFactor : ℕ
-mostFactor = 1_000
+mostFactor = mostOf LaneFactor
 
--- lines 5–9: what one lane carries at least, and six at most (7,146 and 144,000 tenths)
+-- lines 5–9: what one lane carries at least, and six at most (4,037 and 144,000 tenths)
 abbrev pub leastLaneFlow : ℕ
 leastLaneFlow = limitsOf IdealFlow .least * leastFactor * leastTurning / (10_000_000 / flowUnit)
 
 abbrev pub mostFlow : ℕ
 mostFlow = mostOf IdealFlow * mostOf Lanes * flowUnit
 
--- how many times the flow that serves it a volume can be (42)
+-- how many times the flow that serves it a volume can be (75)
 abbrev pub mostServed : ℕ
 mostServed = mostVolume * flowUnit / leastLaneFlow + 1
 
@@ -55,7 +55,7 @@ mostHeld = 24_000
 abbrev pub mostTime : ℕ → ℕ
 mostTime k = 1000 * mostOf Cycle * k
 
--- 13–15 and 27 (10,104,000)
+-- 13–15 and 27 (18,024,000)
 abbrev pub mostReference : ℕ
 mostReference = mostTime mostServed + mostHeld
 
@@ -63,7 +63,7 @@ mostReference = mostTime mostServed + mostHeld
 abbrev pub mostAdded : ℕ
 mostAdded = mostOf LostTime + max (mostOf MinimumGreen) (mostOf PedestrianTime)
 
--- 16–18 and 28 (10,184,000)
+-- 16–18 and 28 (18,104,000)
 abbrev pub mostAdjusted : ℕ
 mostAdjusted = mostReference + mostAdded
 
@@ -81,18 +81,18 @@ leastParts = 1_000_000_000_000 / (100_000_000 + whole * mostEquivalent)
 abbrev pub mostParts : ℕ
 mostParts = 1_000_000_000_000 / whole
 
--- and what the lane carries (45 and 1,440,000,000 tenths)
+-- and what the lane carries (25 and 1,440,000,000 tenths)
 abbrev pub leastMixed : ℕ
 leastMixed = leastLaneFlow * leastParts / whole
 
 abbrev pub mostMixed : ℕ
 mostMixed = mostFlow * mostParts / whole
 
--- how many times that flow a volume can be (6,667)
+-- how many times that flow a volume can be (11,999)
 abbrev pub mostMixedServed : ℕ
 mostMixedServed = mostVolume * flowUnit / leastMixed + 1
 
--- 23–25, where they are times (1,600,104,000), and 26
+-- 23–25, where they are times (2,879,784,000), and 26
 abbrev pub mostOption : ℕ
 mostOption = mostTime mostMixedServed + mostHeld
 

@@ -1,5 +1,7 @@
 -- "The lane factors are Table 5-2 there, typed in thousandths (one lane is 1,000); more lanes than it lists take its last factor."
+use mathlib.Core.Bool.{cond}
 use Prim.Native.Nat.{ℕ, zero, suc}
+use lib.Dec.{eqb}
 use Rattle.kinds.specs.declared.Group.{Group}
 use Rattle.kinds.specs.declared.Group.the-variants.{Left, Through, Right}
 
@@ -21,3 +23,7 @@ laneFactor g zero = 0
 laneFactor g (suc zero) = 1_000
 laneFactor g (suc (suc zero)) = twoLanes g
 laneFactor g (suc (suc (suc n))) = moreLanes g
+
+-- Request Six, "its measured lane factor in thousandths, .. or 0 for the table's": it counts with any number of lanes
+unfoldable pub factorOf : Group → ℕ → ℕ → ℕ
+factorOf g n measured = cond (eqb measured 0) (laneFactor g n) measured

@@ -2,19 +2,22 @@
 ghost use mathlib.Core.Path.{_≡_};
 ghost use mathlib.Core.Bool.{cond};
 ghost use Prim.Native.Nat.{_≤_};
-ghost use Rattle.kinds.specs.declared.Kind.the-variants.{Lanes as LaneKind, IdealFlow};
+ghost use Rattle.kinds.specs.declared.Kind.the-variants.{Lanes as LaneKind, IdealFlow, LaneFactor as FactorKind};
 ghost use Rattle.kinds.specs.declared.Group.the-variants.{Left, Through};
 ghost use Rattle.kinds.specs.Working.{mostOf};
+ghost use Rattle.line_factors.specs.Factors.{factorOf};
 ghost use Rattle.procedure.specs.Lines.{turningT, turningST, flowOf, flow, sST, sSL};
 ghost use Rattle.procedure.specs.Ranges.{Fair};
 ghost use Rattle.units.specs.Unit.{whole};
 ghost use Rattle.line_bounds.specs.Bounds.{mostVolume};
 ghost use Rattle.line_stages.specs.Stages.{volumesOf, flowsOf};
 use kinds::Group;
+use kinds::LaneFactor;
 use kinds::Lanes;
 use line_stages::Flows;
 use line_stages::Volumes;
 use procedure::Approach;
+use procedure::Movement;
 use units::Flow;
 use units::Vph;
 
@@ -79,25 +82,39 @@ fn turning_of(through: Vph, right: Vph, left: Vph) -> u32
 }
 
 // The flow of a group's lanes, down; without a lane there is none.
-fn flow_of(group: Group, ideal: Vph, lanes: Lanes, factor: u32) -> Flow
-    requires { ⌜ (ideal .0 ≤ mostOf IdealFlow) × (lanes .0 ≤ mostOf LaneKind) × (factor ≤ whole) ⌝ }
-    ensures { λ r. ⌜ r .0 ≡ flowOf group (ideal .0) (lanes .0) factor ⌝ }
+fn flow_of(group: Group, ideal: Vph, lanes: Lanes, measured: LaneFactor, turning: u32) -> Flow
+    requires { ⌜ (ideal .0 ≤ mostOf IdealFlow) × (lanes .0 ≤ mostOf LaneKind) × (measured .0 ≤ mostOf FactorKind) × (turning ≤ whole) ⌝ }
+    ensures { λ r. ⌜ r .0 ≡ flowOf (ideal .0) (lanes .0) (factorOf group (lanes .0) (measured .0)) turning ⌝ }
 {
     if lanes.0 == 0 {
         return Flow(0);
     }
-    let share = line_factors::lane_factor(group, lanes.0) as u64;
-    let scaled = ideal.0 as u64 * lanes.0 as u64 * share * factor as u64;
+    let share = line_factors::factor_of(group, lanes, measured) as u64;
+    let scaled = ideal.0 as u64 * lanes.0 as u64 * share * turning as u64;
     Flow((scaled / PRODUCT) as u32)
 }
 
-// Line 9: line 5, but the left of a shared lane has that lane.
+// The same of a movement's own lanes.
+fn group_flow(group: Group, m: Movement, turning: u32) -> Flow
+    requires { ⌜ (m .ideal .0 .0 ≤ mostOf IdealFlow) × (m .lanes .0 ≤ mostOf LaneKind) × (m .measured .0 ≤ mostOf FactorKind) × (turning ≤ whole) ⌝ }
+    ensures { λ r. ⌜ r .0 ≡ flowOf (m .ideal .0 .0) (m .lanes .0) (factorOf group (m .lanes .0) (m .measured .0)) turning ⌝ }
+{
+    flow_of(group, m.ideal.0, m.lanes, m.measured, turning)
+}
+
+// Line 9: line 5, but the left of a shared lane has that lane, and what was measured of the left.
 fn lefts_of(s: Approach, left: Flow) -> Flow
     requires { ⌜ Fair s × (left .0 ≡ flow s Left) ⌝ }
     ensures { λ r. ⌜ r .0 ≡ sSL s ⌝ }
 {
     if s.shared.0 == 1 {
-        return flow_of(Group::Left, s.left.ideal.0, Lanes::new(1), LEFT);
+        return flow_of(
+            Group::Left,
+            s.left.ideal.0,
+            Lanes::new(1),
+            s.left.measured,
+            LEFT,
+        );
     }
     left
 }
@@ -111,7 +128,7 @@ fn straight_of(s: Approach, v: Volumes, through: Flow) -> Flow
         return through;
     }
     let rights = straight_turning_of(v.straight, v.foldedright);
-    flow_of(Group::Through, s.through.ideal.0, s.through.lanes, rights)
+    group_flow(Group::Through, s.through, rights)
 }
 
 // Lines 4–9.
@@ -120,13 +137,13 @@ pub fn flows_of(s: Approach, v: Volumes) -> Flows
     ensures { λ r. ⌜ r ≡ flowsOf s ⌝ }
 {
     let turns = turning_of(v.through, v.foldedright, v.foldedleft);
-    let left = flow_of(Group::Left, s.left.ideal.0, s.left.lanes, LEFT);
-    let through = flow_of(Group::Through, s.through.ideal.0, s.through.lanes, turns);
+    let left = group_flow(Group::Left, s.left, LEFT);
+    let through = group_flow(Group::Through, s.through, turns);
     Flows {
         turning: turns,
         left,
         through,
-        right: flow_of(Group::Right, s.right.ideal.0, s.right.lanes, RIGHT),
+        right: group_flow(Group::Right, s.right, RIGHT),
         straight: straight_of(s, v, through),
         lefts: lefts_of(s, left),
     }

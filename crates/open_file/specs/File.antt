@@ -1,4 +1,4 @@
--- The file of an open study: "ICUO", the 180 owners, the 180 blocks, in little-endian u32s and no byte more.
+-- The file of an open study: "ICUO", the 165 owners, the 165 blocks, in little-endian u32s and no byte more.
 use Prim.Native.Nat.{ℕ, _+_, _*_}
 use mathlib.Core.Bool.{Bool, _&&_}
 use mathlib.Core.List.{List, [], _∷_, _++_}
@@ -18,7 +18,7 @@ ownersPlace = numberBytes
 abbrev pub blocksPlace : ℕ
 blocksPlace = ownersPlace + numberBytes * placeCount
 
--- "no byte more": 59,044
+-- "no byte more": 62,044
 abbrev pub openBytes : ℕ
 openBytes = blocksPlace + numberBytes * blocksCount
 

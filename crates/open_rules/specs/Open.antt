@@ -16,7 +16,7 @@ use Rattle.procedure.specs.Sheet.{sheet}
 use Rattle.sheet_cells.specs.Cells.{sheetAnswer}
 use Rattle.amend_sets.specs.Amend.{entryAnswer}
 
--- "one open study of 180 places, each with an owner number .. in a list lent beside the blocks"
+-- "one open study", of 165 places with Request Six, "each with an owner number .. in a list lent beside the blocks"
 pub record Study : Type 0 where
   pub owners : List ℕ
   pub blocks : List ℕ
@@ -32,7 +32,7 @@ free = 0
 unfoldable pub blockAt : List ℕ → ℕ → List ℕ
 blockAt blocks s = take entryCount (drop (blockFrom s) blocks)
 
--- 1 SIZE: "also when the owner list is not 180 numbers or the blocks are not 180"; place 0
+-- 1 SIZE: "also when the owner list is not" 165 "numbers or the blocks are not" 165; place 0
 unfoldable pub studySize : Study → Answer
 studySize S =
     refuse-if (not (eqb (length (S .owners)) placeCount)) Size 0 then refuse-if (not (eqb (length (S .blocks)) blocksCount)) Size 0

@@ -1,4 +1,4 @@
--- How a field reads: times, a factor, a flow, a whole number, the ICU, and an option that is not allowed.
+-- How a field reads: times, a factor, a lane factor that was measured and one that was not, a flow, a whole number, the ICU, and an option that is not allowed.
 use mathlib.Core.Path.{_≡_, refl}
 use Prim.Native.Nat.{ℕ, _-_}
 use mathlib.Core.List.{List}
@@ -6,7 +6,7 @@ use Rattle.lists.specs.Lists.{table}
 use Rattle.text.specs.Text.{ascii, joined}
 use Rattle.layout.specs.Sheet.{BLANK}
 use Rattle.page_fields.specs.Fields.{fieldWidth, lastPlace, space, dropped, digitByte, numberByte, fields, shown}
-use Rattle.page_fields.specs.Fields.{seconds, factor, carried, percent, letter, pick}
+use Rattle.page_fields.specs.Fields.{seconds, factor, measured, carried, percent, letter, pick}
 
 -- a whole field, from left to right
 unfoldable pub field : ℕ → ℕ → List ℕ
@@ -18,6 +18,8 @@ pub record Fields : Type 0 where
   pub longest : field seconds 4_294_967_294 ≡ ascii "4294967.294"
   pub blank : field seconds BLANK ≡ ascii "         NA"
   pub share : field factor 9603 ≡ ascii "     0.9603"
+  pub counted : field measured 971 ≡ ascii "      0.971"
+  pub uncounted : field measured 0 ≡ ascii "      table"
   pub flow : field carried 18_245 ≡ ascii "     1824.5"
   pub tenths : field percent 829 ≡ ascii "       82.9"
   pub level : field letter 4 ≡ ascii "          E"
@@ -33,6 +35,8 @@ read-so =
       longest = refl;
       blank = refl;
       share = refl;
+      counted = refl;
+      uncounted = refl;
       flow = refl;
       tenths = refl;
       level = refl;

@@ -41,13 +41,16 @@ numberByte number decimals p =
     cond (eqb decimals 0 || ltb p decimals) (digitByte number decimals p)
     (cond (eqb p decimals) point (digitByte number decimals (p - 1)))
 
--- the bytes of the units that are not whole numbers: s, f, V, %, *, A and : (a heading). What is counted, and the ideal flow, which is
+-- the bytes of the units that are not whole numbers: s, f, F, V, %, *, A and : (a heading). What is counted, and the ideal flow, which is
 -- an entry, are whole vehicles per hour, v; what lanes carry has decimals, V.
 abbrev pub seconds : ℕ
 seconds = 115
 
 abbrev pub factor : ℕ
 factor = 102
+
+abbrev pub measured : ℕ
+measured = 70
 
 abbrev pub carried : ℕ
 carried = 86
@@ -64,14 +67,17 @@ letter = 65
 abbrev pub heading : ℕ
 heading = 58
 
--- times are ms and shown in seconds, factors and shares ten-thousandths, flows parts of a vehicle per hour, the ICU tenths of a percent
+-- times are ms and shown in seconds, factors and shares ten-thousandths, a measured lane factor thousandths, flows parts of a vehicle per
+-- hour, the ICU tenths of a percent
 abbrev pub decimalsOf : ℕ → ℕ
 decimalsOf unit =
-    cond (eqb unit seconds) 3 (cond (eqb unit factor) 4 (cond (eqb unit carried) flowDecimals (cond (eqb unit percent) 1 0)))
+    cond (eqb unit seconds) 3
+    (cond (eqb unit factor) 4 (cond (eqb unit measured) 3 (cond (eqb unit carried) flowDecimals (cond (eqb unit percent) 1 0))))
 
 -- texts --------------------------------------------------------------------------------------------------------------
 
--- "NA for BLANK"; then the picks, the approaches, the pairs, what stands for a cell where there is no sheet, and nothing
+-- "NA for BLANK"; then the picks, the approaches, the pairs, what stands for a cell where there is no sheet, and for a lane factor that was not
+-- measured, and nothing
 unfoldable pub fields : List ℕ
 fields =
     joined (
@@ -86,6 +92,7 @@ fields =
     "      EB-WB" ∷
     "      NB-SB" ∷
     "       none" ∷
+    "      table" ∷
     "           " ∷
     [])
 
@@ -105,8 +112,11 @@ pairNames = approachNames + approachCount
 abbrev pub noSheet : ℕ
 noSheet = pairNames + pairCount
 
+abbrev pub fromTable : ℕ
+fromTable = noSheet + 1
+
 abbrev pub noName : ℕ
-noName = noSheet + 1
+noName = fromTable + 1
 
 -- place p of one of them
 abbrev pub fieldText : ℕ → ℕ → ℕ
@@ -134,4 +144,5 @@ shown unit value p =
     cond (eqb unit pick) (fieldText (pickField value) p)
     (cond (eqb unit letter) (cond (eqb p 0) (letter + value % letterCount) space)
     (cond (eqb unit seconds && eqb value BLANK) (fieldText notAllowed p)
-    (numberByte value (decimalsOf unit) p)))
+    (cond (eqb unit measured && eqb value 0) (fieldText fromTable p)
+    (numberByte value (decimalsOf unit) p))))

@@ -21,7 +21,9 @@ const PAIR_NAMES: usize = APPROACH_NAMES + layout::APPROACHES;
 
 pub const NO_SHEET: usize = PAIR_NAMES + layout::PAIRS;
 
-const NO_NAME: usize = NO_SHEET + 1;
+const FROM_TABLE: usize = NO_SHEET + 1;
+
+const NO_NAME: usize = FROM_TABLE + 1;
 
 const FIELDS: [u8; FIELD_WIDTH * (NO_NAME + 1)] = *b"\x20        NA\
     \x20 protected\
@@ -34,6 +36,7 @@ const FIELDS: [u8; FIELD_WIDTH * (NO_NAME + 1)] = *b"\x20        NA\
     \x20     EB-WB\
     \x20     NB-SB\
     \x20      none\
+    \x20     table\
     \x20          ";
 
 // A to H.
@@ -76,13 +79,15 @@ fn number_byte(number: u32, decimals: usize, p: usize) -> u8
     digit_byte(number, decimals, p - 1)
 }
 
-// Times are ms and shown in seconds, factors and shares ten-thousandths, flows parts of a vehicle per hour, the ICU tenths of a percent.
+// Times are ms and shown in seconds, factors and shares ten-thousandths, a measured lane factor thousandths, flows parts of a vehicle per
+// hour, the ICU tenths of a percent.
 fn decimals_of(unit: u8) -> usize
     ensures { λ r. ⌜ r ≡ decimalsOf unit ⌝ }
 {
     match unit {
         b's' => 3,
         b'f' => 4,
+        b'F' => 3,
         b'V' => units::FLOW_DECIMALS,
         b'%' => 1,
         _ => 0,
@@ -135,6 +140,9 @@ pub fn shown(unit: u8, value: u32, p: usize) -> u8
     }
     if unit == b's' && value == layout::BLANK {
         return field_text(NOT_ALLOWED, p);
+    }
+    if unit == b'F' && value == 0 {
+        return field_text(FROM_TABLE, p);
     }
     number_byte(value, decimals_of(unit), p)
 }

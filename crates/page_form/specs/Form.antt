@@ -22,16 +22,19 @@ rows =
     "L  ideal flow                   9 v" ∷
     "L  lost time                   10 s" ∷
     "L  minimum green               11 s" ∷
+    "L  lane factor                 15 F" ∷
     "T  lanes                        2 n" ∷
     "T  volume                       4 v" ∷
     "T  ideal flow                   9 v" ∷
     "T  lost time                   10 s" ∷
     "T  minimum green               11 s" ∷
+    "T  lane factor                 15 F" ∷
     "R  lanes                        2 n" ∷
     "R  volume                       4 v" ∷
     "R  ideal flow                   9 v" ∷
     "R  lost time                   10 s" ∷
     "R  minimum green               11 s" ∷
+    "R  lane factor                 15 F" ∷
     "A  shared lane                  3 n" ∷
     "A  pedestrians                  5 p" ∷
     "A  push button                  6 n" ∷
@@ -114,7 +117,7 @@ endOf Cells s = s .cell + s .step * s .columns
 abbrev pub headed : ℕ → ℕ
 headed row = row + 1
 
--- "The sheet is 81 entries, 28 lines of each approach, 4 cells of each pair, the last 8."
+-- The sheet is the entries, "28 lines of each approach, 4 cells of each pair, the last 8".
 -- The sections of rows: the first row, the cell in its first column, the step to the next column's, and the columns.
 abbrev pub movements : Section
 movements = headed 0 from 0 by (groupCount * movementEntries) columns approachCount

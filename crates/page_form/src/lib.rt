@@ -21,16 +21,19 @@ const TITLES: [u8; TITLE_BYTES] = *b"no entry                     book :\
     L  ideal flow                   9 v\
     L  lost time                   10 s\
     L  minimum green               11 s\
+    L  lane factor                 15 F\
     T  lanes                        2 n\
     T  volume                       4 v\
     T  ideal flow                   9 v\
     T  lost time                   10 s\
     T  minimum green               11 s\
+    T  lane factor                 15 F\
     R  lanes                        2 n\
     R  volume                       4 v\
     R  ideal flow                   9 v\
     R  lost time                   10 s\
     R  minimum green               11 s\
+    R  lane factor                 15 F\
     A  shared lane                  3 n\
     A  pedestrians                  5 p\
     A  push button                  6 n\

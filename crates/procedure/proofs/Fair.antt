@@ -14,11 +14,11 @@ use Rattle.kinds.specs.declared.Group.the-variants.{Left, Through, Right}
 use Rattle.kinds.specs.Kinds.{Within, kindAt, movementKind, approachKind, groupOf}
 use Rattle.kinds.proofs.Laws.{within}
 use Rattle.layout.specs.Entries.{approachCount, groupCount, movementCount, movementEntries, approachEntries, cycleEntry, left, through, right}
-use Rattle.layout.specs.Entries.{lanesNo, volumeNo, idealNo, lostNo, greenNo, sharedNo, walkersNo, crossingNo}
+use Rattle.layout.specs.Entries.{lanesNo, volumeNo, idealNo, lostNo, greenNo, factorNo, sharedNo, walkersNo, crossingNo}
 use Rattle.entries.specs.Layout.{lanes, volume as counted, shared, cycle, movementEntry, approachEntry}
 use Rattle.entries.specs.Judging.{judged, otherLanes}
 use Rattle.entries.proofs.Laws.{accepted-range, accepted-movement, accepted-approach, accepted-shared, accepted-served}
-use Rattle.kinds.specs.declared.Kind.the-variants.{Lanes, Volume, IdealFlow, LostTime, MinimumGreen}
+use Rattle.kinds.specs.declared.Kind.the-variants.{Lanes, Volume, IdealFlow, LostTime, MinimumGreen, LaneFactor}
 use Rattle.procedure.specs.declared.Movement.{Movement}
 use Rattle.procedure.specs.Approach.{readMovement, readApproach, movementOf, n, v, isShared}
 use Rattle.procedure.specs.Lines.{a, b, volume}
@@ -84,6 +84,7 @@ module _ (e : List ℕ) (ok : judged e ≡ Accepted) (k : ℕ) (few : k < approa
         ideal = subst (λ (m : Movement). Within IdealFlow (m .ideal .0 .0)) (sym (is-read g)) (at g idealNo (lit< tt));
         lost = subst (λ (m : Movement). Within LostTime (m .lost .0 .0)) (sym (is-read g)) (at g lostNo (lit< tt));
         green = subst (λ (m : Movement). Within MinimumGreen (m .green .0 .0)) (sym (is-read g)) (at g greenNo (lit< tt));
+        measured = subst (λ (m : Movement). Within LaneFactor (m .measured .0)) (sym (is-read g)) (at g factorNo (lit< tt));
       }
 
   -- what serves a counted movement: lanes of its own, or those that `otherLanes` names

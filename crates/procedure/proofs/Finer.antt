@@ -9,16 +9,14 @@ use lib.Dec.{eqb}
 use Rattle.units.specs.Rounding.{up}
 use Rattle.units.specs.Unit.{flowUnit, whole}
 use Rattle.units.proofs.Laws.{up-most, up-covers}
-use Rattle.kinds.specs.declared.Group.{Group}
-use Rattle.line_factors.specs.Factors.{laneFactor}
 use Rattle.procedure.specs.Lines.{flowOf, flowA, time}
 
-pub whole-vehicles : (g : Group) (i n f : ℕ) → flowOf g i n f / flowUnit ≡ cond (eqb n 0) 0 (i * n * laneFactor g n * f / 10_000_000)
+pub whole-vehicles : (i n factor f : ℕ) → flowOf i n factor f / flowUnit ≡ cond (eqb n 0) 0 (i * n * factor * f / 10_000_000)
 unfolding flowOf
-whole-vehicles g i n f = go (eqb n 0)
+whole-vehicles i n factor f = go (eqb n 0)
   where
     all : ℕ
-    all = i * n * laneFactor g n * f
+    all = i * n * factor * f
 
     go : (none : Bool) → cond none 0 (all / (10_000_000 / flowUnit)) / flowUnit ≡ cond none 0 (all / 10_000_000)
     go true = refl

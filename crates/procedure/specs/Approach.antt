@@ -1,16 +1,17 @@
--- An approach: its three movements and its own entries, and how they are read from the 81 entries.
+-- An approach: its three movements and its own entries, and how they are read from the entries.
 use mathlib.Core.Bool.{Bool}
 use mathlib.Core.List.{List}
 use Prim.Native.Nat.{ℕ}
 use lib.Dec.{eqb}
 use Rattle.kinds.specs.declared.Group.{Group}
 use Rattle.kinds.specs.declared.Group.the-variants.{Left, Through, Right}
-use Rattle.layout.specs.Entries.{left, through, right, lanesNo, volumeNo, idealNo, lostNo, greenNo, sharedNo, walkersNo, buttonNo, crossingNo, freeNo}
+use Rattle.layout.specs.Entries.{left, through, right, lanesNo, volumeNo, idealNo, lostNo, greenNo, factorNo}
+use Rattle.layout.specs.Entries.{sharedNo, walkersNo, buttonNo, crossingNo, freeNo}
 use Rattle.entries.specs.Layout.{movementEntry, approachEntry}
 use Rattle.procedure.specs.declared.Movement.{Movement}
 use Rattle.procedure.specs.declared.Approach.{Approach}
 
--- "Movement m has entries 5m to 5m+4". (`1 = tt` is the field of no content that lets none but the kinds make their values.)
+-- "Movement m then has entries 6m to 6m+5". (`1 = tt` is the field of no content that lets none but the kinds make their values.)
 unfoldable pub readMovement : List ℕ → ℕ → Movement
 readMovement e m =
     record {
@@ -19,9 +20,10 @@ readMovement e m =
       ideal = record { 0 = record { 0 = movementEntry e m idealNo }; 1 = tt };
       lost = record { 0 = record { 0 = movementEntry e m lostNo }; 1 = tt };
       green = record { 0 = record { 0 = movementEntry e m greenNo }; 1 = tt };
+      measured = record { 0 = movementEntry e m factorNo; 1 = tt };
     }
 
--- "Approach a has 60+5a onward"
+-- "approach a 72+5a onward"
 unfoldable pub readApproach : List ℕ → ℕ → Approach
 readApproach e a =
     record {
@@ -55,6 +57,10 @@ lost s g = movementOf s g .lost .0 .0
 
 abbrev pub green : Approach → Group → ℕ
 green s g = movementOf s g .green .0 .0
+
+-- Request Six, "a sixth entry, its measured lane factor in thousandths"
+abbrev pub measured : Approach → Group → ℕ
+measured s g = movementOf s g .measured .0
 
 -- the approach's own: pedestrians p, whether it is shared, has a button, has a free right
 abbrev pub p : Approach → ℕ

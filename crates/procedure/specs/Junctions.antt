@@ -7,13 +7,13 @@ use Rattle.line_decay.specs.Decay.{decayNumber}
 use Rattle.procedure.specs.Approach.{readApproach}
 use Rattle.procedure.specs.Lines.{leftShare, equivalent, leftA}
 use Rattle.procedure.specs.Pairs.{line, letterOf}
-use Rattle.layout.specs.Entries.{EB, WB, left, through, volumeNo, walkersNo, crossingNo, movementPlace, approachPlace}
+use Rattle.layout.specs.Entries.{EB, WB, left, through, volumeNo, factorNo, walkersNo, crossingNo, movementPlace, approachPlace}
 use Rattle.layout.specs.Sheet.{BLANK, protectedCell, permittedCell, splitCell, pickCell, combinedCell, requiredCell, icuCell, letterCell}
 use Rattle.procedure.specs.Sheet.{linesAt, sheet}
 
--- a movement: lanes and volume; "flows 1,900, lost and minimum 4,000"
+-- a movement: lanes and volume; "flows 1,900, lost and minimum 4,000"; no measured lane factor
 abbrev pub movement : ℕ → ℕ → List ℕ
-movement lanes volume = lanes ∷ volume ∷ 1_900 ∷ 4_000 ∷ 4_000 ∷ []
+movement lanes volume = lanes ∷ volume ∷ 1_900 ∷ 4_000 ∷ 4_000 ∷ 0 ∷ []
 
 -- an approach's own: shared or not; "no pedestrians, button, pedestrian time 16,000"
 abbrev pub side : ℕ → List ℕ
@@ -114,3 +114,20 @@ given =
     ∷ (18_050 ∷ 117_804 ∷ 300_000 ∷ 601 ∷ [])
     ∷ (BLANK ∷ [])
     ∷ []
+
+-- Request Six, worked by hand: K1 with EB's one through lane measured at 950 thousandths; K2, whose lanes are shared, with EB's left at 800
+-- and its through at 900, of which line 9 takes the left's
+abbrev pub M1 : List ℕ
+M1 = set K1 (movementPlace (through EB) factorNo) 950
+
+abbrev pub M2 : List ℕ
+M2 = set (set K2 (movementPlace (left EB) factorNo) 800) (movementPlace (through EB) factorNo) 900
+
+abbrev pub measuredOut : List (List ℕ)
+measuredOut =
+    (line 5 (eb M1) ∷ line 6 (eb M1) ∷ line 8 (eb M1) ∷ line 9 (eb M1) ∷ line 14 (eb M1) ∷ cell M1 (protectedCell 0) ∷ [])
+    ∷ (line 6 (eb M2) ∷ line 8 (eb M2) ∷ line 9 (eb M2) ∷ line 14 (eb M2) ∷ [])
+    ∷ []
+
+abbrev pub measuredGiven : List (List ℕ)
+measuredGiven = (18_050 ∷ 18_050 ∷ 18_050 ∷ 18_050 ∷ 26_593 ∷ 41_242 ∷ []) ∷ (16_421 ∷ 16_458 ∷ 14_440 ∷ 36_539 ∷ []) ∷ []

@@ -9,11 +9,11 @@ use Rattle.units.specs.Rounding.{up}
 use Rattle.units.specs.Unit.{flowUnit, whole}
 use Rattle.layout.specs.Sheet.{BLANK}
 use Rattle.line_decay.specs.Decay.{decayNumber as D}
-use Rattle.line_factors.specs.Factors.{laneFactor}
+use Rattle.line_factors.specs.Factors.{factorOf}
 use Rattle.kinds.specs.declared.Group.{Group}
 use Rattle.kinds.specs.declared.Group.the-variants.{Left, Through, Right}
 use Rattle.procedure.specs.declared.Approach.{Approach}
-use Rattle.procedure.specs.Approach.{n, v, i, lost, green, p, crossing, isShared, hasButton}
+use Rattle.procedure.specs.Approach.{n, v, i, lost, green, measured, p, crossing, isShared, hasButton}
 
 -- "the folded right a, folded left b"
 unfoldable pub a : Approach → ℕ
@@ -45,27 +45,31 @@ fT s = turningT (vC s) (a s) (b s)
 
 -- 5–7 "flows of L, T, R: i·n·lane factor·f/10⁷, f being 9,500, fT, 8,500. No lanes: 0."; Request Five: "tenths of a vehicle per
 -- hour, still rounded down", so over 10⁶. The ideal flow i is an entry, whole vehicles per hour.
-unfoldable pub flowOf : Group → ℕ → ℕ → ℕ → ℕ
-flowOf g i n f = cond (eqb n 0) 0 (i * n * laneFactor g n * f / (10_000_000 / flowUnit))
+unfoldable pub flowOf : ℕ → ℕ → ℕ → ℕ → ℕ
+flowOf i n factor f = cond (eqb n 0) 0 (i * n * factor * f / (10_000_000 / flowUnit))
 
 abbrev pub f : Approach → Group → ℕ
 f s Left = 9_500
 f s Through = fT s
 f s Right = 8_500
 
+-- the "lane factor" of a group's lanes; Request Six: measured, "or 0 for the table's"
+unfoldable pub factor : Approach → Group → ℕ
+factor s g = factorOf g (n s g) (measured s g)
+
 unfoldable pub flow : Approach → Group → ℕ
-flow s g = flowOf g (i s g) (n s g) (f s g)
+flow s g = flowOf (i s g) (n s g) (factor s g) (f s g)
 
 -- 8 "sST: as line 6 with f = 100(100vST−15a)/vST, down (10,000 if vST is 0)"
 unfoldable pub turningST : ℕ → ℕ → ℕ
 turningST vST a = cond (eqb vST 0) whole (100 * (100 * vST - 15 * a) / vST)
 
 unfoldable pub sST : Approach → ℕ
-sST s = flowOf Through (i s Through) (n s Through) (turningST (vST s) (a s))
+sST s = flowOf (i s Through) (n s Through) (factor s Through) (turningST (vST s) (a s))
 
--- 9 "sSL: line 5, or if shared one left lane"
+-- 9 "sSL: line 5, or if shared one left lane"; Request Six: "a shared lane's line 9 uses the left movement's"
 unfoldable pub sSL : Approach → ℕ
-sSL s = cond (isShared s) (flowOf Left (i s Left) 1 (f s Left)) (flow s Left)
+sSL s = cond (isShared s) (flowOf (i s Left) 1 (factorOf Left 1 (measured s Left)) (f s Left)) (flow s Left)
 
 -- "G = 24,000 − ⌊(8·D(p(CL−8)) + 16·D(4p))/10⁶⌋, p pedestrians"
 unfoldable pub G : ℕ → ℕ → ℕ

@@ -4,10 +4,10 @@ use mathlib.Core.Bool.{true, false}
 use Prim.Native.Nat.{ℕ, _≤_, _<_}
 use Rattle.kinds.specs.declared.Group.{Group}
 use Rattle.kinds.specs.declared.Group.the-variants.{Through}
-use Rattle.kinds.specs.declared.Kind.the-variants.{Lanes, Volume, IdealFlow, LostTime, MinimumGreen, Pedestrians, PedestrianTime, Cycle}
+use Rattle.kinds.specs.declared.Kind.the-variants.{Lanes, Volume, IdealFlow, LostTime, MinimumGreen, LaneFactor, Pedestrians, PedestrianTime, Cycle}
 use Rattle.kinds.specs.Kinds.{Within}
 use Rattle.procedure.specs.declared.Approach.{Approach}
-use Rattle.procedure.specs.Approach.{n, v, i, lost, green, p, crossing, isShared}
+use Rattle.procedure.specs.Approach.{n, v, i, lost, green, measured, p, crossing, isShared}
 use Rattle.procedure.specs.Lines.{volume}
 
 pub record FairGroup (s : Approach) (g : Group) : Type 0 where
@@ -16,6 +16,7 @@ pub record FairGroup (s : Approach) (g : Group) : Type 0 where
   pub ideal : Within IdealFlow (i s g)
   pub lost : Within LostTime (lost s g)
   pub green : Within MinimumGreen (green s g)
+  pub measured : Within LaneFactor (measured s g)
 
 -- every entry is in range, and what has volume is served
 pub record Fair (s : Approach) : Type 0 where

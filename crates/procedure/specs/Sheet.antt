@@ -1,4 +1,4 @@
--- "The sheet is 81 entries, 28 lines of each approach, 4 cells of each pair, the last 8."
+-- The sheet is the entries, "28 lines of each approach, 4 cells of each pair, the last 8".
 use mathlib.Core.Bool.{Bool, _||_}
 use mathlib.Core.List.{List, [], _∷_, _++_}
 use Prim.Native.Nat.{ℕ, _+_, max}

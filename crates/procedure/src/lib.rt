@@ -11,6 +11,7 @@ ghost use Rattle.procedure.specs.Approach.{readMovement, readApproach};
 use kinds::Cycle;
 use kinds::FreeRight;
 use kinds::IdealFlow;
+use kinds::LaneFactor;
 use kinds::Lanes;
 use kinds::LostTime;
 use kinds::MinimumGreen;
@@ -26,6 +27,7 @@ pub struct Movement {
     pub ideal: IdealFlow,
     pub lost: LostTime,
     pub green: MinimumGreen,
+    pub measured: LaneFactor,
 }
 
 pub struct Approach {
@@ -49,6 +51,7 @@ fn read_movement(entries: &[u32], movement: usize) -> Movement
         ideal: IdealFlow::new(entries::movement_value(entries, movement, layout::IDEAL_NO)),
         lost: LostTime::new(entries::movement_value(entries, movement, layout::LOST_NO)),
         green: MinimumGreen::new(entries::movement_value(entries, movement, layout::GREEN_NO)),
+        measured: LaneFactor::new(entries::movement_value(entries, movement, layout::FACTOR_NO)),
     }
 }
 

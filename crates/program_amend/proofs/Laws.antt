@@ -12,14 +12,14 @@ use Rattle.answers.specs.declared.Answer.the-variants.{Accepted, Refused as No}
 use Rattle.lists.proofs.Tests.{both-true}
 use Rattle.procedure.specs.Sheet.{sheet}
 use Rattle.page.specs.Worksheet.{changeText}
-use Rattle.study.specs.Study.{judgement, sitesOf, siteAnswer, siteEntries}
+use Rattle.study.specs.Study.{isOld, judgement, sitesOf, siteAnswer, siteEntries}
 use Rattle.study_changed.specs.Changed.{withEntries}
 use Rattle.text.specs.Text.{Placed}
 use Rattle.text.proofs.Laws.{placed-nothing}
 use Rattle.program_words.specs.Words.{wordAt}
 use Rattle.program_outcome.specs.declared.Call.{Call}
 use Rattle.program_outcome.specs.declared.Lengths.{Lengths}
-use Rattle.program_outcome.specs.Outcome.{Outcome, saying, withFile, Left}
+use Rattle.program_outcome.specs.Outcome.{Outcome, saying, named, withFile, Left}
 use Rattle.program_outcome.specs.Working.{onlySaid}
 use Rattle.program_site.specs.Site.{siteNamed, soughtBy, sought, soughtText, withSite}
 use Rattle.program_site.specs.declared.Sought.{Sought}
@@ -29,7 +29,7 @@ use Rattle.program_changes.specs.declared.Done.{Done}
 use Rattle.program_changes.specs.Changes.{mostChanges, changedBy}
 use Rattle.program_changes.specs.Working.{Came}
 use Rattle.program_amend.specs.Run.{changesIn, leftOver, isKept, amendTakes, amendUse, sheetBefore}
-use Rattle.program_amend.specs.Run.{changesGive, amendSite, amendFile, amendWork}
+use Rattle.program_amend.specs.Run.{changesGive, amendSite, amendFile, oldText, amendStudy, amendWork}
 
 -- no more changes are taken than there is room for
 pub few-changes : (count : ℕ) → amendTakes count ≡ true → changesIn count ≤ mostChanges
@@ -103,6 +103,25 @@ module _ (call : Call) (words area : List ℕ) where
   work-use wrong = rw wrong
 
   pub work-file : amendTakes (call .arguments) ≡ true
-      → amendWork call words area ≡ withFile (call .input) (wordAt words 0) area (amendFile (call .arguments) words)
+      → amendWork call words area ≡ withFile (call .input) (wordAt words 0) area (amendStudy (call .arguments) words)
   unfolding amendWork
   work-file right = rw right
+
+-- of a file of before nothing is written, whatever is asked for
+pub old-unwritten : (count : ℕ) (words file : List ℕ) → isOld file ≡ true → amendStudy count words file .writes ≡ []
+unfolding amendStudy amendFile amendSite changesGive
+old-unwritten count words file old = by (isKept count) refl (sought file (wordAt words 1))
+  where
+    unkept : (made : Bool) (e : List ℕ) → cond (made && false) e [] ≡ []
+    unkept true e = refl
+    unkept false e = refl
+
+    by : (kept : Bool) → isKept count ≡ kept → (this : Sought)
+        → cond (kept && isOld file) (saying (named (wordAt words 0) oldText))
+        (withSite this (wordAt words 0) (wordAt words 1) (amendSite count words file)) .writes ≡ []
+    by true e this = rw old
+    by false e (Site site) =
+        let so = changedBy words (changesIn count) (siteEntries file site) in
+        rw e (unkept (so .made) (withEntries file site (so .entries)))
+    by false e (Missing sites) = refl
+    by false e (Bad why place) = refl

@@ -7,7 +7,7 @@ use Rattle.answers.specs.Answers.{left-by}
 use Rattle.entries.specs.Judging.{judged}
 use Rattle.procedure.specs.Sheet.{sheet}
 use Rattle.page.specs.Worksheet.{changeText}
-use Rattle.study.specs.Study.{siteEntries}
+use Rattle.study.specs.Study.{isOld, siteEntries}
 use Rattle.study_changed.specs.Changed.{withEntries}
 use Rattle.text.specs.Text.{ascii}
 use Rattle.program_words.specs.Words.{wordAt}
@@ -15,7 +15,7 @@ use Rattle.program_wish.specs.Wish.{wishOf, versionText}
 use Rattle.program_wish.specs.declared.Wish.{Wish}
 use Rattle.program_wish.specs.declared.Wish.the-variants.{Help, Version, Work}
 use Rattle.program_outcome.specs.declared.Call.{Call}
-use Rattle.program_outcome.specs.Outcome.{Outcome, printing, saying, withFile}
+use Rattle.program_outcome.specs.Outcome.{Outcome, printing, saying, named, withFile}
 use Rattle.program_site.specs.Site.{sought, withSite}
 use Rattle.program_changes.specs.Changes.{mostChanges, changesFrom, changeWords, Changes, changedBy}
 
@@ -46,7 +46,7 @@ unfoldable pub amendUse : List ℕ
 amendUse =
     ascii "usage: icuamend STUDY SITE NAME ENTRY VALUE [NAME ENTRY VALUE ..] [NEW]\n"
     ++ ascii "  prints what changes on the sheet of a site, from 1, as in: icuamend STUDY 1 EBT volume 450\n"
-    ++ ascii "  NAME: EBL EBT EBR .. SBR with lanes volume ideal-flow lost-time minimum-green,\n"
+    ++ ascii "  NAME: EBL EBT EBR .. SBR with lanes volume ideal-flow lost-time minimum-green lane-factor,\n"
     ++ ascii "        EB WB NB SB with shared-lane pedestrians push-button pedestrian-time free-right,\n"
     ++ ascii "        junction with cycle; at most 20 changes, one after the other\n"
     ++ ascii "  NEW: the file that the changed study is written to\n"
@@ -76,9 +76,16 @@ amendSite count words file site =
 unfoldable pub amendFile : ℕ → List ℕ → List ℕ → Outcome
 amendFile count words file = withSite (sought file (wordAt words 1)) (wordAt words 0) (wordAt words 1) (amendSite count words file)
 
+-- a study of before is not written: where the changed one is to be kept, it is to be converted first
+unfoldable pub oldText : List ℕ
+oldText = ascii "a study of before (ICUS), which is not written any more: first icustudy convert it\n"
+
+unfoldable pub amendStudy : ℕ → List ℕ → List ℕ → Outcome
+amendStudy count words file = cond (isKept count && isOld file) (saying (named (wordAt words 0) oldText)) (amendFile count words file)
+
 unfoldable pub amendWork : Call → List ℕ → List ℕ → Outcome
 amendWork call words area =
-    cond (amendTakes (call .arguments)) (withFile (call .input) (wordAt words 0) area (amendFile (call .arguments) words)) (saying amendUse)
+    cond (amendTakes (call .arguments)) (withFile (call .input) (wordAt words 0) area (amendStudy (call .arguments) words)) (saying amendUse)
 
 -- how it is called, or its version, where that is asked for
 abbrev pub asWished : Wish → Outcome → Outcome

@@ -1,6 +1,6 @@
 // What `icuamend` prints, writes and says: one call, between reading and writing.
 ghost use mathlib.Core.Path.{_≡_};
-ghost use mathlib.Core.Bool.{true, cond, _&&_};
+ghost use mathlib.Core.Bool.{true, false, cond, _&&_};
 ghost use mathlib.Core.List.{[]};
 ghost use Prim.Native.Nat.{_+_, _≤_};
 ghost use lib.ListN.{length};
@@ -9,14 +9,14 @@ ghost use Rattle.answers.specs.declared.Answer.the-variants.{Accepted};
 ghost use Rattle.entries.specs.Judging.{judged};
 ghost use Rattle.procedure.specs.Sheet.{sheet};
 ghost use Rattle.page.specs.Worksheet.{changeText};
-ghost use Rattle.study.specs.Study.{siteAnswer};
+ghost use Rattle.study.specs.Study.{icut, isOld, formatOf, siteAnswer};
 ghost use Rattle.study_changed.specs.Changed.{withEntries};
 ghost use Rattle.text.specs.Text.{Placed};
 ghost use Rattle.program_outcome.specs.declared.Remark.the-variants.{Unread as NotRead};
-ghost use Rattle.program_outcome.specs.Outcome.{remarked, Left};
+ghost use Rattle.program_outcome.specs.Outcome.{named, remarked, Left};
 ghost use Rattle.program_site.specs.Site.{soughtText};
 ghost use Rattle.program_amend.specs.Run.{pastSite, changesIn, isKept, amendTakes, newPlace, amendUse, sheetBefore};
-ghost use Rattle.program_amend.specs.Run.{amendFile, amendWork, amendRun};
+ghost use Rattle.program_amend.specs.Run.{oldText, amendFile, amendStudy, amendWork, amendRun};
 ghost use Rattle.program_amend.specs.Working.{useMost};
 use answers::Answer;
 use layout::CELLS;
@@ -156,7 +156,7 @@ fn write_site(
     entries: &[u32; ENTRIES],
     written: &mut [u8; WRITTEN_BYTES],
 ) -> usize
-    requires { ⌜ siteAnswer (now file) site ≡ Accepted ⌝ }
+    requires { ⌜ (siteAnswer (now file) site ≡ Accepted) × (kept ≡ true → formatOf (now file) ≡ icut) ⌝ }
     ensures { λ r. ⌜ Placed (now (written .entry)) 0 (cond kept (withEntries (now (file .entry)) site (now (entries .entry))) []) (now (written .exit)) r ⌝ }
 {
     if kept {
@@ -174,7 +174,8 @@ fn give(
     printed: &mut [u8; PRINTED_BYTES],
     written: &mut [u8; WRITTEN_BYTES],
 ) -> Lengths
-    requires { ⌜ (siteAnswer (now file) (given .site) ≡ Accepted) × (given .made ≡ true → judged (now changed) ≡ Accepted) ⌝ }
+    requires { ⌜ (siteAnswer (now file) (given .site) ≡ Accepted) × (given .kept ≡ true → formatOf (now file) ≡ icut)
+        × (given .made ≡ true → judged (now changed) ≡ Accepted) ⌝ }
     ensures { λ r. ⌜ Placed (now (printed .entry)) 0
         (cond (given .made) (changeText (sheetBefore (now (entries .entry))) (sheet (now (changed .entry)))) []) (now (printed .exit)) (r .prints) ⌝ }
     ensures { λ r. ⌜ Placed (now (written .entry)) 0
@@ -219,7 +220,7 @@ fn amend_file(
     written: &mut [u8; WRITTEN_BYTES],
     said: &mut [u8; SAID_BYTES],
 ) -> Lengths
-    requires { ⌜ amendTakes count ≡ true ⌝ }
+    requires { ⌜ (amendTakes count ≡ true) × (isKept count ≡ true → formatOf (now file) ≡ icut) ⌝ }
     ensures { λ r. ⌜ Left (amendFile count (now (words .entry)) (now (file .entry)))
         (now (printed .entry)) (now (said .entry)) (now (printed .exit)) (now (said .exit)) r ⌝ }
     ensures { λ r. ⌜ Placed (now (written .entry)) 0 (amendFile count (now (words .entry)) (now (file .entry)) .writes) (now (written .exit)) (r .writes) ⌝ }
@@ -245,6 +246,40 @@ fn amend_file(
     }
 }
 
+// Says that a study of before is to be converted first.
+fn say_old(name: &[u8], said: &mut [u8; SAID_BYTES]) -> usize
+    ensures { λ r. ⌜ Placed (now (said .entry)) 0 (named (now (name .entry)) oldText) (now (said .exit)) r ⌝ }
+{
+    let mut sentence = [0u8; program_outcome::SAID_BYTES];
+    let size = program_outcome::put_named(
+        &mut sentence,
+        name,
+        b"a study of before (ICUS), which is not written any more: first icustudy convert it\n",
+    );
+    program_changes::put_sentence(said, 0, &sentence, size)
+}
+
+// The same, unless the changed study is to be kept and the file is one of before, which is not written.
+fn amend_study(
+    file: &[u8],
+    words: &[u8],
+    count: usize,
+    printed: &mut [u8; PRINTED_BYTES],
+    written: &mut [u8; WRITTEN_BYTES],
+    said: &mut [u8; SAID_BYTES],
+) -> Lengths
+    requires { ⌜ amendTakes count ≡ true ⌝ }
+    ensures { λ r. ⌜ Left (amendStudy count (now (words .entry)) (now (file .entry)))
+        (now (printed .entry)) (now (said .entry)) (now (printed .exit)) (now (said .exit)) r ⌝ }
+    ensures { λ r. ⌜ Placed (now (written .entry)) 0 (amendStudy count (now (words .entry)) (now (file .entry)) .writes) (now (written .exit)) (r .writes) ⌝ }
+{
+    if is_kept(count) && study::is_old(file) {
+        let name = program_words::word(words, NAME);
+        return program_outcome::only_said(say_old(name, said));
+    }
+    amend_file(file, words, count, printed, written, said)
+}
+
 // Puts how the program is called to the front.
 fn put_use(out: &mut [u8]) -> usize
     requires { ⌜ useMost ≤ length (now out) ⌝ }
@@ -255,7 +290,7 @@ fn put_use(out: &mut [u8]) -> usize
         0,
         b"usage: icuamend STUDY SITE NAME ENTRY VALUE [NAME ENTRY VALUE ..] [NEW]\n  \
         prints what changes on the sheet of a site, from 1, as in: icuamend STUDY 1 EBT volume 450\n  \
-        NAME: EBL EBT EBR .. SBR with lanes volume ideal-flow lost-time minimum-green,\n        \
+        NAME: EBL EBT EBR .. SBR with lanes volume ideal-flow lost-time minimum-green lane-factor,\n        \
         EB WB NB SB with shared-lane pedestrians push-button pedestrian-time free-right,\n        \
         junction with cycle; at most 20 changes, one after the other\n  \
         NEW: the file that the changed study is written to\n",
@@ -285,7 +320,7 @@ fn work(
         return program_outcome::only_said(say_unread(name, said));
     };
     let file = program_outcome::front(area, size);
-    amend_file(file, words, count, printed, written, said)
+    amend_study(file, words, count, printed, written, said)
 }
 
 // What `icuamend` gives; its study was read into the area.

@@ -12,7 +12,7 @@ use Rattle.lists.proofs.Laws.{length-table}
 use Rattle.layout.specs.Entries.{entryCount}
 use Rattle.study_numbers.proofs.Laws.{length-packed}
 use Rattle.study_format.specs.Format.{blockPlace, offsets, fileOf as fileIn}
-use Rattle.study.specs.Study.{icus, siteLimit, fileBytes, sitesIn, writeAnswer, fileOf}
+use Rattle.study.specs.Study.{icut, siteLimit, fileBytes, sitesIn, writeAnswer, fileOf}
 use Rattle.text.specs.Text.{Placed}
 
 module _ (entries : List ℕ) (sites : ℕ) (few : sites ≤ siteLimit) (whole : length entries ≡ entryCount * sites) where
@@ -32,13 +32,13 @@ module _ (entries : List ℕ) (sites : ℕ) (few : sites ≤ siteLimit) (whole :
   unfolding fileIn
   file-long =
       let k = sitesIn entries in
-      let numbers = (k ∷ []) ++ offsets icus k ++ entries in
+      let numbers = (k ∷ []) ++ offsets icut k ++ entries in
       rw (
-        length-append (icus .opening) _,
+        length-append (icut .opening) _,
         length-packed numbers,
-        length-append ((k ∷ []) ++ offsets icus k) entries,
-        length-append (k ∷ []) (offsets icus k),
-        length-table (blockPlace icus k) k,
+        length-append ((k ∷ []) ++ offsets icut k) entries,
+        length-append (k ∷ []) (offsets icut k),
+        length-table (blockPlace icut k) k,
         as-many,
         whole,
       )

@@ -41,7 +41,7 @@ jobOf count words = jobFor (wishOf count (wordAt words 0)) count words
 
 unfoldable pub officeUse : List ℕ
 officeUse =
-    ascii "usage: icuoffice STUDY new                                   makes an open study of 180 free places\n"
+    ascii "usage: icuoffice STUDY new                                   makes an open study of 165 free places\n"
     ++ ascii "       icuoffice STUDY OFFICE add TEXT                       puts the text's junction at the lowest free place\n"
     ++ ascii "       icuoffice STUDY OFFICE amend SITE NAME ENTRY VALUE    changes an entry of a site of the office's own\n"
     ++ ascii "       icuoffice STUDY OFFICE read SITE                      prints the sheet of a site of the office's own\n"

@@ -105,7 +105,7 @@ fn put_use(out: &mut [u8]) -> usize
         out,
         0,
         b"usage: icuoffice STUDY new                                   \
-        makes an open study of 180 free places\n       \
+        makes an open study of 165 free places\n       \
         icuoffice STUDY OFFICE add TEXT                       \
         puts the text's junction at the lowest free place\n       \
         icuoffice STUDY OFFICE amend SITE NAME ENTRY VALUE    \

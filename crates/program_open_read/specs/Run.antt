@@ -13,7 +13,7 @@ use Rattle.program_page.specs.Pages.{sitePage}
 use Rattle.program_open.specs.Words.{studyWord, siteWord, officeIn, siteIn}
 use Rattle.program_open.specs.Opening.{sourceRead, studyIn, openSays, blankSheet, _or-gives_, ifAccepted}
 
--- "site 2 of 180", on a page by itself
+-- "site 2 of 165", on a page by itself
 abbrev pub spotOf : ℕ → Spot
 spotOf site = record { site = site; sites = placeCount; follows = false }
 

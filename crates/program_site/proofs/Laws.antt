@@ -5,13 +5,14 @@ use mathlib.Core.Bool.{Bool, true, false}
 use mathlib.Core.List.{List, []}
 use lib.Dec.{leb}
 use native.Mathlib.Omega.{arith}
-use borrow.Author.Tests.{eq-eqb, le-leb, lt-leb, leb-false}
+use borrow.Author.Tests.{le-leb, lt-leb, leb-false}
 use Rattle.answers.specs.Answers.{left-by}
 use Rattle.answers.specs.declared.Refusal.{Refusal}
 use Rattle.answers.specs.declared.Answer.{Answer}
 use Rattle.answers.specs.declared.Answer.the-variants.{Accepted, Refused as No}
 use Rattle.layout.specs.Entries.{entryCount}
 use Rattle.study.specs.Study.{judgement, sitesOf, countOf, siteAnswer, siteEntriesAnswer}
+use Rattle.study.proofs.Laws.{entries-given}
 use Rattle.text.specs.Text.{Placed}
 use Rattle.program_outcome.specs.Outcome.{Outcome, Left}
 use Rattle.program_outcome.specs.Working.{onlySaid}
@@ -49,7 +50,7 @@ module _ (file : List ℕ) (site : ℕ) (within : site < countOf file) where
   pub had : (room : ℕ) (new old : List ℕ) → room ≡ entryCount → left-by (siteEntriesAnswer file site room) new old ≡ new
   had room new old sized =
       let here = rw (counted file [] good-file) at within in
-      simp (eq-eqb room entryCount sized, good-file, lt-leb (sitesOf file) site here)
+      entries-given file site room new old (simp (good-file, lt-leb (sitesOf file) site here)) sized
 
 -- where there is no such site, that is said and nothing else is given
 abbrev pub isThere : Sought → Bool

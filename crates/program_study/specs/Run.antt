@@ -14,7 +14,7 @@ use Rattle.program_outcome.specs.declared.Input.{Input}
 use Rattle.program_outcome.specs.Outcome.{Outcome, printing, saying, withFile}
 use Rattle.program_site.specs.Site.{sought, withSite}
 use Rattle.program_study.specs.declared.Job.{Job}
-use Rattle.program_study.specs.declared.Job.the-variants.{Make, Show, TooMany, Use, Help, Version}
+use Rattle.program_study.specs.declared.Job.the-variants.{Make, Show, Convert, TooMany, Use, Help, Version}
 
 -- the arguments before the first text: the program's name, the job's, and the study's
 abbrev pub beforeTexts : ℕ
@@ -24,11 +24,15 @@ beforeTexts = 3
 abbrev pub textsIn : ℕ → ℕ
 textsIn count = min (count - beforeTexts) siteLimit
 
+-- a study, and a site to show or a file to write
+abbrev pub ofTwo : ℕ → Job → Job
+ofTwo count job = cond (eqb count 4) job Use
+
 -- by the number of arguments, the program's name among them, and the job's name
 unfoldable pub workOf : ℕ → List ℕ → Job
 workOf count job =
     cond (same job (ascii "make")) (cond (leb count beforeTexts) Use (cond (ltb siteLimit (count - beforeTexts)) TooMany Make))
-    (cond (same job (ascii "show")) (cond (eqb count 4) Show Use) Use)
+    (cond (same job (ascii "show")) (ofTwo count Show) (cond (same job (ascii "convert")) (ofTwo count Convert) Use))
 
 abbrev pub jobFor : Wish → ℕ → List ℕ → Job
 jobFor ForHelp count job = Help
@@ -42,12 +46,14 @@ unfoldable pub studyUse : List ℕ
 studyUse =
     ascii "usage: icustudy make STUDY TEXT ...   makes a study file of the junctions in the texts\n"
     ++ ascii "       icustudy show STUDY SITE       prints a site of a study file as text, sites from 1\n"
+    ++ ascii "       icustudy convert STUDY NEW     writes a study of before (ICUS) as one of today (ICUT)\n"
 
--- what is given at once, where nothing is to be made or shown
+-- what is given at once, where nothing is to be made, shown or converted
 unfoldable pub toldOf : Job → Outcome
 toldOf Make = saying []
 toldOf Show = saying []
-toldOf TooMany = saying (ascii "a study holds at most 180 junctions\n")
+toldOf Convert = saying []
+toldOf TooMany = saying (ascii "a study holds at most 165 junctions\n")
 toldOf Use = saying studyUse
 toldOf Help = printing studyUse
 toldOf Version = printing versionText

@@ -4,7 +4,7 @@ ghost use Prim.Native.Nat.{_≤_};
 ghost use lib.ListN.{length};
 ghost use Rattle.text.specs.Text.{Placed};
 ghost use Rattle.program_outcome.specs.Outcome.{Left};
-ghost use Rattle.program_study.specs.Run.{textsIn, workOf, jobOf, studyUse, toldOf, showAt, showRun};
+ghost use Rattle.program_study.specs.Run.{textsIn, ofTwo, workOf, jobOf, studyUse, toldOf, showAt, showRun};
 ghost use Rattle.program_study.specs.Working.{useMost};
 use layout::ENTRIES;
 use program_outcome::AREA_BYTES;
@@ -22,8 +22,8 @@ pub const PRINTED_BYTES: usize = TEXT_BYTES;
 // The arguments before the first text: the program's name, the job's, and the study's.
 pub const BEFORE_TEXTS: usize = 3;
 
-// A study and a site, beside the program's name and the job's.
-const TO_SHOW: usize = 4;
+// A study and a site, or a file to write, beside the program's name and the job's.
+const OF_TWO: usize = 4;
 
 // The arguments, among the words.
 pub const JOB: usize = 0;
@@ -35,10 +35,21 @@ const SITE: usize = 2;
 pub enum Job {
     Make,
     Show,
+    Convert,
     TooMany,
     Use,
     Help,
     Version,
+}
+
+// A job that takes two arguments, if there are two.
+fn of_two(count: usize, job: Job) -> Job
+    ensures { λ r. ⌜ r ≡ ofTwo count job ⌝ }
+{
+    if count == OF_TWO {
+        return job;
+    }
+    Job::Use
 }
 
 // What there is to do, by the number of arguments and the job's name.
@@ -55,10 +66,10 @@ fn work_of(count: usize, word: &[u8]) -> Job
         return Job::Make;
     }
     if program_wish::is_same(word, b"show") {
-        if count == TO_SHOW {
-            return Job::Show;
-        }
-        return Job::Use;
+        return of_two(count, Job::Show);
+    }
+    if program_wish::is_same(word, b"convert") {
+        return of_two(count, Job::Convert);
     }
     Job::Use
 }
@@ -96,21 +107,23 @@ fn put_use(out: &mut [u8]) -> usize
         out,
         0,
         b"usage: icustudy make STUDY TEXT ...   makes a study file of the junctions in the texts\n       \
-        icustudy show STUDY SITE       prints a site of a study file as text, sites from 1\n",
+        icustudy show STUDY SITE       prints a site of a study file as text, sites from 1\n       \
+        icustudy convert STUDY NEW     writes a study of before (ICUS) as one of today (ICUT)\n",
     )
 }
 
-// What is given at once, where nothing is to be made or shown: what is wrong, or what is asked for.
+// What is given at once, where nothing is to be made, shown or converted: what is wrong, or what is asked for.
 pub fn tell(job: Job, printed: &mut [u8; PRINTED_BYTES], said: &mut [u8; SAID_BYTES]) -> Lengths
     ensures { λ r. ⌜ Left (toldOf job) (now (printed .entry)) (now (said .entry)) (now (printed .exit)) (now (said .exit)) r ⌝ }
 {
     match job {
         Job::Make => program_outcome::only_said(0),
         Job::Show => program_outcome::only_said(0),
+        Job::Convert => program_outcome::only_said(0),
         Job::TooMany => program_outcome::only_said(text::put_bytes(
             said,
             0,
-            b"a study holds at most 180 junctions\n",
+            b"a study holds at most 165 junctions\n",
         )),
         Job::Use => program_outcome::only_said(put_use(said)),
         Job::Help => {

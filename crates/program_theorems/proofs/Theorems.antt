@@ -16,18 +16,21 @@ use Rattle.layout.specs.Open.{placeCount, blocksCount}
 use Rattle.answers.specs.declared.Answer.the-variants.{Accepted}
 use Rattle.lists.specs.Lists.{AllBelow, over}
 use Rattle.study_numbers.specs.Numbers.{numberLimit, byteLimit}
-use Rattle.study.specs.Study.{siteLimit, countOf, siteAnswer, entriesUpTo, fileOf}
+use Rattle.study.specs.Study.{siteLimit, icut, isOld, formatOf, judgement, countOf, siteAnswer, entriesUpTo, fileOf, converted}
 use Rattle.study_changed.specs.Changed.{withEntries}
 use Rattle.study_changed.proofs.Written.{changed-study as study-changed}
 use Rattle.text.specs.Text.{Placed}
 use Rattle.program_words.specs.Words.{wordAt}
 use Rattle.program_outcome.specs.declared.Input.the-variants.{Read}
 use Rattle.program_outcome.specs.declared.Lengths.{Lengths}
-use Rattle.program_outcome.specs.Outcome.{Outcome, Left}
+use Rattle.program_outcome.specs.Outcome.{Outcome, writing, Left}
 use Rattle.program_sheet.specs.Run.{asksAll, sheetRun, pagesOf, pageAt}
 use Rattle.program_sheet.specs.Whole.{pagesUpTo, sheetWhole}
 use Rattle.program_sheet.proofs.Whole.{all-pages as pages-whole}
-use Rattle.program_amend.specs.Run.{amendRun}
+use Rattle.program_amend.specs.Run.{amendStudy, amendRun}
+use Rattle.program_amend.proofs.Laws.{old-unwritten}
+use Rattle.program_convert.specs.Run.{convertOf, convertRun}
+use Rattle.program_convert.proofs.Laws.{few-written}
 use Rattle.program_office.specs.Run.{startRun, toldOf as officeTold}
 use Rattle.open_file.specs.File.{isOpen, ownersIn, blocksIn, openFile}
 use Rattle.open_file.proofs.RoundTrip as opened
@@ -73,6 +76,10 @@ use Rattle.program_make.proofs.make as make
 use Rattle.program_make.proofs.make.Statement as make-stated
 use Rattle.program_make.proofs.make.Reads as make-reads
 use Rattle.program_make.proofs.make.Met as make-met
+use Rattle.program_convert.proofs.run as convert
+use Rattle.program_convert.proofs.run.Statement as convert-stated
+use Rattle.program_convert.proofs.run.Reads as convert-reads
+use Rattle.program_convert.proofs.run.Met as convert-met
 use Rattle.program_list.proofs.run as list
 use Rattle.program_list.proofs.run.Statement as list-stated
 use Rattle.program_list.proofs.run.Reads as list-reads
@@ -139,11 +146,20 @@ pub all-pages :
 all-pages = pages-whole
 
 -- THE STUDY THAT IS WRITTEN. What `icuamend` writes, entries over the block of a site that the file has, is the study file of all
--- sites' entries with those of the site replaced.
+-- sites' entries with those of the site replaced. Of a file of before it writes nothing.
 pub changed-study :
-    (file : List ℕ) (site : ℕ) (entries : List ℕ) → AllBelow byteLimit file → siteAnswer file site ≡ Accepted → length entries ≡ entryCount
+    (file : List ℕ) (site : ℕ) (entries : List ℕ) → AllBelow byteLimit file → siteAnswer file site ≡ Accepted → formatOf file ≡ icut
+    → length entries ≡ entryCount
     → withEntries file site entries ≡ fileOf (over (entriesUpTo file (countOf file)) (entryCount * site) entries)
 changed-study = study-changed
+
+pub old-study-not-written : (count : ℕ) (words file : List ℕ) → isOld file ≡ true → amendStudy count words file .writes ≡ []
+old-study-not-written = old-unwritten
+
+-- THE STUDY THAT IS CONVERTED. What `icustudy convert` writes of a good file, of today or of before, that has no more sites than one of today
+-- holds, is the file of today with its sites' entries: it keeps them and the listing (`converted-keeps` of the library's theorems).
+pub converted-study : (name file : List ℕ) → judgement file ≡ Accepted → countOf file ≤ siteLimit → convertOf name file ≡ writing (converted file)
+converted-study = few-written
 
 -- THE FILE OF AN OPEN STUDY. Owners and blocks that are written and read back are the same ..
 pub open-written-and-read :
@@ -243,6 +259,17 @@ pub make-promises :
     → Exactly w (make-reads.ensures κs a tt r s w)
     (Placed (now (a .1 .1 .0)) 0 (studyOf (a .0) (now (a .1 .0))) (now (s .1 .1 .0)) r)
 make-promises κs a r s w = refl
+
+pub convert-keeps : {M : Type 1} → convert-stated.statement M
+convert-keeps = convert-met.met
+
+pub convert-promises :
+    (κs : Lfts 4) (a : ArgsD convert.signature κs) (r : ResD convert.signature κs) (s : AtExit convert.ended κs) (w : World)
+    → let run = convertRun (a .0) (now (a .1 .0)) (now (a .1 .1 .0)) in
+    Both w (convert-reads.ensures κs a tt r s w)
+    (Left run [] (now (a .1 .1 .1 .1 .0)) [] (now (s .1 .1 .1 .1 .0)) r)
+    (Placed (now (a .1 .1 .1 .0)) 0 (run .writes) (now (s .1 .1 .1 .0)) (r .writes))
+convert-promises κs a r s w = refl
 
 pub list-keeps : {M : Type 1} → list-stated.statement M
 list-keeps = list-met.met

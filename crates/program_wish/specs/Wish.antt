@@ -25,4 +25,4 @@ wishOf count word =
 
 -- the version is the header's
 unfoldable pub versionText : List ℕ
-versionText = ascii "icu2003 2.0\n"
+versionText = ascii "icu2003 3.0\n"

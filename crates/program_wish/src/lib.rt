@@ -43,5 +43,5 @@ pub fn put_version(out: &mut [u8]) -> usize
     requires { ⌜ versionMost ≤ length (now out) ⌝ }
     ensures { λ r. ⌜ Placed (now (out .entry)) 0 versionText (now (out .exit)) r ⌝ }
 {
-    text::put_bytes(out, 0, b"icu2003 2.0\n")
+    text::put_bytes(out, 0, b"icu2003 3.0\n")
 }

@@ -3,15 +3,15 @@ use mathlib.Core.Path.{_≡_, refl}
 use mathlib.Core.List.{[], _∷_}
 use lib.ListN.{take}
 use Rattle.units.specs.Rounding.{up}
-use Rattle.line_factors.specs.Factors.{laneFactor}
+use Rattle.line_factors.specs.Factors.{laneFactor, factorOf}
 use Rattle.entries.specs.Layout.{movementEntry, approachEntry}
 use Rattle.procedure.specs.Approach.{readMovement, readApproach}
-use Rattle.procedure.specs.Lines.{volume, flowOf, flow, single, leftShare, equivalent, flowA, leftA, firstLines, lines}
+use Rattle.procedure.specs.Lines.{volume, flowOf, factor, flow, single, leftShare, equivalent, flowA, leftA, firstLines, lines}
 use Rattle.procedure.specs.Sheet.{linesAt, sheet}
 use Rattle.procedure.specs.Junctions.{K9}
 use Rattle.sheet_beside.specs.Beside.{ownLane, added, besideAt, besideOf, beside}
 
 pub own-lane-of-K9 : take 5 (beside K9) ≡ (59 ∷ 300_000 ∷ 601 ∷ 0 ∷ 0 ∷ [])
-unfolding besideOf besideAt ownLane added up laneFactor movementEntry approachEntry readMovement readApproach volume flowOf flow single
+unfolding besideOf besideAt ownLane added up laneFactor factorOf movementEntry approachEntry readMovement readApproach volume flowOf factor flow single
     leftShare equivalent flowA leftA firstLines lines linesAt sheet
 own-lane-of-K9 = refl

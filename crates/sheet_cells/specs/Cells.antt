@@ -9,7 +9,7 @@ use Rattle.answers.specs.Answers.{refuse-if}
 use Rattle.answers.specs.declared.Refusal.the-variants.{Size}
 use Rattle.answers.specs.declared.Answer.{Answer}
 
--- 1 SIZE: "or sheet not 209"; place 0
+-- 1 SIZE: "or sheet not" 221; place 0
 unfoldable pub sheetAnswer : List ℕ → Answer
 sheetAnswer d = refuse-if (not (eqb (length d) sheetCount)) Size 0
 

@@ -1,6 +1,6 @@
 -- Laws of a site's block within its file, and of a part that is put into what was put before.
-use Prim.Native.Nat.{ℕ, _+_, _*_, _≤_, _<_}
-use mathlib.Core.Path.{_≡_, refl, sym, ap, _∙_}
+use Prim.Native.Nat.{ℕ, _+_, _≤_, _<_}
+use mathlib.Core.Path.{_≡_, _∙_}
 use mathlib.Core.List.{List, _++_, append-assoc}
 use lib.ListN.{length, take, drop}
 use lib.Seq.{take-append-le, drop-append-le}
@@ -13,18 +13,14 @@ use Rattle.study_numbers.proofs.Laws.{length-packed}
 use Rattle.layout.specs.Entries.{entryCount}
 use Rattle.text.specs.Text.{Placed}
 use Rattle.study_format.specs.Format.{blockPlace, fileBytes, blockBytes}
-use Rattle.study_format.specs.Working.{Modest}
 use Rattle.study_format.proofs.Laws.{HasSite, has-site, within-largest}
-use Rattle.study.specs.Study.{icus, siteLimit, sitesOf, siteAnswer}
+use Rattle.study.specs.Study.{icut, formatOf, siteLimit, sitesOf, siteAnswer}
 use Rattle.study_changed.specs.Changed.{withEntries}
 
-pub modest : Modest icus
-modest = record { opens = refl; entries = omega arith; sites = omega arith; fits = omega arith }
-
--- a file that has a site is at most the largest, and the site's block lies in it
-module _ (file : List ℕ) (site : ℕ) (there : siteAnswer file site ≡ Accepted) where
-  has : HasSite icus file site
-  has = has-site icus file site there
+-- a file of today that has a site is at most the largest, and the site's block lies in it
+module _ (file : List ℕ) (site : ℕ) (there : siteAnswer file site ≡ Accepted) (today : formatOf file ≡ icut) where
+  has : HasSite icut file site
+  has = has-site icut file site (rw today at there)
 
   pub few : sitesOf file ≤ siteLimit
   few = has .good .few
@@ -32,10 +28,10 @@ module _ (file : List ℕ) (site : ℕ) (there : siteAnswer file site ≡ Accept
   pub in-file : site < sitesOf file
   in-file = has .there
 
-  pub file-fits : length file ≤ fileBytes icus siteLimit
-  file-fits = rw (has .good .size) (within-largest icus (sitesOf file) (sitesOf file) (has .good .few) (omega arith))
+  pub file-fits : length file ≤ fileBytes icut siteLimit
+  file-fits = rw (has .good .size) (within-largest icut (sitesOf file) (sitesOf file) (has .good .few) (omega arith))
 
-  pub block-within : blockPlace icus (sitesOf file) site + blockBytes icus ≤ length file
+  pub block-within : blockPlace icut (sitesOf file) site + blockBytes icut ≤ length file
   block-within = has .within
 
 -- a part put into what stands at the front is put there with it
@@ -53,17 +49,18 @@ over-inside list whole part at within =
       append-assoc (take at whole ++ part) (drop (at + length part) whole) rest,
     )
 
-pub changed-placed : {list one two : List ℕ} {at past : ℕ} (file : List ℕ) (site : ℕ) (entries : List ℕ) → siteAnswer file site ≡ Accepted
+pub changed-placed : {list one two : List ℕ} {at past : ℕ} (file : List ℕ) (site : ℕ) (entries : List ℕ)
+    → siteAnswer file site ≡ Accepted → formatOf file ≡ icut
     → length entries ≡ entryCount
     → Placed list 0 file one past
-    → at ≡ blockPlace icus (sitesOf file) site
+    → at ≡ blockPlace icut (sitesOf file) site
     → two ≡ over one at (packed entries)
     → Placed list 0 (withEntries file site entries) two past
 unfolding withEntries
-changed-placed {list} file site entries there whole placed here is =
-    let place = blockPlace icus (sitesOf file) site in
+changed-placed {list} file site entries there today whole placed here is =
+    let place = blockPlace icut (sitesOf file) site in
     let within : place + length (packed entries) ≤ length file =
-    omega (arith, length-packed entries, block-within file site there) in
+    omega (arith, length-packed entries, block-within file site there today) in
     record {
       is = is ∙ rw (placed .is, here) (over-inside list file (packed entries) place within);
       next = omega (arith, placed .next, length-over file place (packed entries) within);

@@ -1,5 +1,5 @@
 -- The changed file is the study file of all sites' entries, those of the site replaced: both are a head and the entries' bytes.
-use Prim.Native.Nat.{ℕ, zero, suc, _+_, _*_, _≤_, _<_}
+use Prim.Native.Nat.{ℕ, _+_, _*_, _≤_}
 use mathlib.Core.Path.{_≡_, refl, sym, ap, _∙_}
 use mathlib.Core.List.{List, [], _∷_, _++_, append-assoc}
 use lib.ListN.{length, take, drop, length-append, take-append-drop}
@@ -12,8 +12,9 @@ use Rattle.lists.proofs.Laws.{length-table, length-over}
 use Rattle.layout.specs.Entries.{entryCount}
 use Rattle.study_numbers.specs.Numbers.{numberBytes, byteLimit, packed}
 use Rattle.study_numbers.proofs.Laws.{length-packed, packed-append}
-use Rattle.study_format.specs.Format.{blockPlace, offsets, entriesUpTo as upTo, fileOf as fileIn}
-use Rattle.study.specs.Study.{icus, sitesOf, judgement, countOf, siteAnswer, entriesUpTo, sitesIn, fileOf}
+use Rattle.study_format.specs.Format.{blockPlace, offsets, fileOf as fileIn}
+use Rattle.study.specs.Study.{icut, formatOf, sitesOf, judgement, countOf, siteAnswer, entriesUpTo, sitesIn, fileOf}
+use Rattle.study_theorems.proofs.Sites.{length-sites}
 use Rattle.study_theorems.proofs.Study.{read-written}
 use Rattle.study_changed.specs.Changed.{withEntries}
 use Rattle.study_changed.proofs.Laws.{in-file}
@@ -53,47 +54,42 @@ over-past head list part at =
     let past : length head + at + length part ≡ length head + (at + length part) = omega arith in
     rw (past, take-append-add head list at, drop-append-add head list (at + length part)) (simp append-assoc)
 
-length-upTo : (file : List ℕ) (n : ℕ) → length (entriesUpTo file n) ≡ entryCount * n
-unfolding upTo
-length-upTo file zero = omega arith
-length-upTo file (suc n) = rw (length-append, length-table) (omega (arith, length-upTo file n))
-
 -- a study file of k sites is a head, which goes by k alone, and the entries' bytes
 module _ (k : ℕ) where
   front : List ℕ
-  front = (k ∷ []) ++ offsets icus k
+  front = (k ∷ []) ++ offsets icut k
 
   head : List ℕ
-  head = icus .opening ++ packed front
+  head = icut .opening ++ packed front
 
-  head-bytes : length head ≡ blockPlace icus k 0
+  head-bytes : length head ≡ blockPlace icut k 0
   unfolding head front
   head-bytes =
-      let numbers = length-append (k ∷ []) (offsets icus k) in
-      let places = length-table (blockPlace icus k) k in
-      omega (arith, length-append (icus .opening) (packed front), length-packed front, numbers, places)
+      let numbers = length-append (k ∷ []) (offsets icut k) in
+      let places = length-table (blockPlace icut k) k in
+      omega (arith, length-append (icut .opening) (packed front), length-packed front, numbers, places)
 
   file-split : (entries : List ℕ) → length entries ≡ entryCount * k → fileOf entries ≡ head ++ packed entries
   unfolding fileIn head front
   file-split entries whole =
       let sites : sitesIn entries ≡ k = rw whole (omega arith) in
-      rw (sites, packed-append front entries) (sym (append-assoc (icus .opening) (packed front) (packed entries)))
+      rw (sites, packed-append front entries) (sym (append-assoc (icut .opening) (packed front) (packed entries)))
 
-pub changed-study : (file : List ℕ) (site : ℕ) (entries : List ℕ) → AllBelow byteLimit file → siteAnswer file site ≡ Accepted
+pub changed-study : (file : List ℕ) (site : ℕ) (entries : List ℕ) → AllBelow byteLimit file → siteAnswer file site ≡ Accepted → formatOf file ≡ icut
     → length entries ≡ entryCount
     → withEntries file site entries ≡ fileOf (over (entriesUpTo file (countOf file)) (entryCount * site) entries)
 unfolding withEntries
-changed-study file site entries small there sized =
+changed-study file site entries small there today sized =
     let k = sitesOf file in
     let good = both-accepted (judgement file) _ there .0 in
     let count : countOf file ≡ k = rw good in
     let all = entriesUpTo file (countOf file) in
-    let long : length all ≡ entryCount * k = length-upTo file (countOf file) ∙ ap (λ n. entryCount * n) count in
+    let long : length all ≡ entryCount * k = length-sites file (countOf file) ∙ ap (λ n. entryCount * n) count in
     let at = entryCount * site in
-    let within : at + length entries ≤ length all = omega (arith, long, sized, in-file file site there) in
-    let place : blockPlace icus k site ≡ length (head k) + numberBytes * at = omega (arith, head-bytes k) in
-    let is = sym (read-written file small good) ∙ file-split k all long in
-    ap (λ bytes. over bytes (blockPlace icus k site) (packed entries)) is
+    let within : at + length entries ≤ length all = omega (arith, long, sized, in-file file site there today) in
+    let place : blockPlace icut k site ≡ length (head k) + numberBytes * at = omega (arith, head-bytes k) in
+    let is = sym (read-written file good today small) ∙ file-split k all long in
+    ap (λ bytes. over bytes (blockPlace icut k site) (packed entries)) is
     ∙ ap (λ n. over (head k ++ packed all) n (packed entries)) place
     ∙ over-past (head k) (packed all) (packed entries) (numberBytes * at)
     ∙ ap (λ bytes. head k ++ bytes) (sym (packed-over all entries at within))

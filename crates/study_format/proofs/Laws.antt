@@ -1,15 +1,17 @@
 -- Laws of a file's judgement: of a field, of a format's places, and what a file has that is accepted.
 use Prim.Native.Nat.{ℕ, suc, _+_, _-_, _<_, _≤_, _^_}
-use mathlib.Core.Path.{_≡_, sym, _∙_}
+use mathlib.Core.Path.{_≡_, refl, sym, ap, _∙_}
 use mathlib.Core.Bool.{Bool, true, false, _&&_, not}
-use mathlib.Core.List.{List}
-use lib.ListN.{length, getD, drop, length-drop, drop-of-length-le}
+use mathlib.Core.List.{List, [], _∷_}
+use lib.ListN.{length, getD, take, drop, length-drop, drop-of-length-le}
 use lib.Seq.{drop-cons, length-take-le}
 use lib.Dec.{ltb, leb, eqb}
 use borrow.Author.Tests.{ltb-false, leb-false, le-ltb, eqb-true, eq-eqb, not-false}
 use native.Mathlib.Nat.{mul-le-mul, mul-le-mul-left, zero-add}
 use native.Mathlib.Numerals.{add-one}
+use native.Mathlib.Decide.{decLt}
 use native.Mathlib.Omega.{arith}
+use Rattle.lists.proofs.Tests.{both-true}
 use Rattle.study_numbers.specs.Numbers.{numberBytes, numberLimit, numberAt}
 use Rattle.answers.specs.Answers.{_then_, refuse-if}
 use Rattle.answers.specs.declared.Refusal.the-variants.{File}
@@ -34,6 +36,40 @@ module _ (file bytes : List ℕ) (i : ℕ) where
   pub starts-end : length bytes ≤ i → startsWith (drop i file) (drop i bytes) ≡ true
   unfolding startsWith
   starts-end h = rw (drop-of-length-le bytes h)
+
+-- bytes begin with others where those stand at their front, and so with no two of the same length
+pub starts-with : (file bytes : List ℕ) → startsWith file bytes ≡ true → take (length bytes) file ≡ bytes
+unfolding startsWith
+starts-with file [] e = refl
+starts-with [] (byte ∷ bytes) e = absurd (let z : _≡_ {A = ℕ} 0 1 = cc in omega arith)
+starts-with (first ∷ file) (byte ∷ bytes) e =
+    let both = both-true (eqb first byte) (startsWith file bytes) e in
+    rw (eqb-true first byte (both .0), starts-with file bytes (both .1))
+
+pub other-opening : (file one other : List ℕ) → length one ≡ length other → (one ≡ other → ⊥) → startsWith file one ≡ true → startsWith file other ≡ false
+other-opening file one other alike differ first = go (startsWith file other) refl
+  where
+    go : (t : Bool) → startsWith file other ≡ t → t ≡ false
+    go true second = absurd (differ (sym (starts-with file one first) ∙ ap (λ n. take n file) alike ∙ starts-with file other second))
+    go false second = refl
+
+-- what is shorter than an opening does not begin with it
+pub too-short : (file bytes : List ℕ) → length file < length bytes → startsWith file bytes ≡ false
+unfolding startsWith
+too-short file [] h = absurd (omega arith)
+too-short [] (byte ∷ bytes) h = refl
+too-short (first ∷ file) (byte ∷ bytes) h = go (eqb first byte) (too-short file bytes (omega arith))
+  where
+    go : (t : Bool) → startsWith file bytes ≡ false → (t && startsWith file bytes) ≡ false
+    go true rest = rest
+    go false rest = refl
+
+pub long-enough : (file bytes : List ℕ) → startsWith file bytes ≡ true → length bytes ≤ length file
+long-enough file bytes opened = go (decLt (length file) (length bytes))
+  where
+    go : Dec (length file < length bytes) → length bytes ≤ length file
+    go (yes short) = absurd (let z : _≡_ {A = Bool} true false = sym opened ∙ too-short file bytes short in let n : _≡_ {A = ℕ} 0 1 = cc in omega arith)
+    go (no enough) = omega arith
 
 -- a field that is not cut short lies within the file
 

@@ -1,5 +1,5 @@
 -- "Study file and listing", of any format: what any bytes are as a study file, what is read of one and what is written.
-use Prim.Native.Nat.{ℕ, zero, suc, _+_, _*_, _/_, _%_}
+use Prim.Native.Nat.{ℕ, _+_, _*_, _/_, _%_}
 use mathlib.Core.List.{List, [], _∷_, _++_}
 use mathlib.Core.Bool.{Bool, true, false, _&&_, not}
 use lib.ListN.{length, take, drop}
@@ -44,16 +44,16 @@ field file at wrong = whole file at then refuse-if wrong File at
 abbrev pub roomPlace : ℕ
 roomPlace = 4
 
--- "entries are not 81 numbers"
+-- "entries are not .. numbers"
 abbrev pub sizeAnswer : ℕ → ℕ → Answer
 sizeAnswer wanted size = refuse-if (not (eqb size wanted)) Size 0
 
 module _ (f : Format) where
-  -- "blocks of 81 entries": of 324 bytes, since each entry is a u32
+  -- "blocks of 81 entries": of 324 bytes in paper 01, of 372 with Request Six, since each entry is a u32
   abbrev pub blockBytes : ℕ
   blockBytes = numberBytes * f .entries
 
-  -- "Offset j is 8+4k+324j": the place of block j, past the offsets and the blocks before it
+  -- "Offset j is 8+4k+324j", or 372j: the place of block j, past the offsets and the blocks before it
   abbrev pub blockPlace : ℕ → ℕ → ℕ
   blockPlace k j = offsetPlace k + blockBytes * j
 
@@ -107,17 +107,9 @@ module _ (f : Format) where
   abbrev pub blockEntries : List ℕ → List ℕ
   blockEntries block = numbersIn block (f .entries)
 
-  -- a site's entries, asked for with room for some numbers
-  abbrev pub siteEntriesAnswer : List ℕ → ℕ → ℕ → Answer
-  siteEntriesAnswer file site room = sizeAnswer (f .entries) room then siteAnswer file site
-
+  -- a site's entries
   abbrev pub siteEntries : List ℕ → ℕ → List ℕ
   siteEntries file site = blockEntries (siteBlock file site)
-
-  -- the entries of the first n sites, site after site
-  unfoldable pub entriesUpTo : List ℕ → ℕ → List ℕ
-  entriesUpTo file zero = []
-  entriesUpTo file (suc n) = entriesUpTo file n ++ siteEntries file n
 
   -- writing
 
@@ -125,7 +117,7 @@ module _ (f : Format) where
   abbrev pub sitesIn : List ℕ → ℕ
   sitesIn entries = length entries / f .entries
 
-  -- "to write, not a multiple of 81"; "place 0 for more than 180 sites, then 4 for too little room"
+  -- "to write, not a multiple"; "place 0 for more than" the most "sites, then 4 for too little room"
   abbrev pub writeAnswer : List ℕ → ℕ → Answer
   writeAnswer entries room =
       refuse-if (not (eqb (length entries % f .entries) 0)) Size 0

@@ -83,7 +83,8 @@ impl Format {
         self.block_place(sites, sites)
     }
 
-    fn opens(self, file: &[u8]) -> bool
+    // Whether a file begins with the format's opening.
+    pub fn opens(self, file: &[u8]) -> bool
         requires { ⌜ Modest self × (numberBytes ≤ length (now file)) ⌝ }
         ensures { λ r. ⌜ r ≡ startsWith (now (file .entry)) (self .opening) ⌝ }
     {

@@ -18,6 +18,7 @@ use Rattle.sheet.proofs.Fits.{letter-most}
 use Rattle.sheet_cells.specs.Cells.{sheetAnswer}
 use Rattle.sheet.specs.Fill.{fillAnswer, filled}
 use Rattle.study.specs.Study.{siteAnswer, siteEntriesAnswer, siteEntries}
+use Rattle.study.proofs.Laws.{entries-given}
 use Rattle.study_lines.specs.Working.{letterMost, Lettered}
 use Rattle.study_listing.specs.Listing.{shown, siteOf}
 
@@ -32,11 +33,6 @@ lettered e = by (judged e) refl
     by : (answer : Answer) → judged e ≡ answer → Lettered (shown answer (sheet e))
     by Accepted ok = letter-cell e (accepted-count e ok)
     by (No why place) bad = tt
-
--- a site's entries, asked for with room for them, of a file that has the site
-entries-there : (file : List ℕ) (site room : ℕ) (new old : List ℕ) → siteAnswer file site ≡ Accepted → room ≡ entryCount
-    → left-by (siteEntriesAnswer file site room) new old ≡ new
-entries-there file site room new old there sized = simp (eq-eqb room entryCount sized, there)
 
 -- filling a sheet of the right size answers as the entries are judged, and shows the site
 fill-shows : (e before : List ℕ) {answer : Answer} {after : List ℕ} → length before ≡ sheetCount
@@ -57,5 +53,5 @@ pub site-shows : (file : List ℕ) (site : ℕ) (entries : List ℕ) {answer : A
     → after ≡ filled entries (replicate sheetCount 0)
     → shown answer after ≡ siteOf (siteEntries file site)
 site-shows file site entries there read answers fills =
-    let is = read ∙ entries-there file site entryCount (siteEntries file site) (replicate entryCount 0) there refl in
+    let is = read ∙ entries-given file site entryCount (siteEntries file site) (replicate entryCount 0) there refl in
     rw is at (fill-shows entries (replicate sheetCount 0) refl answers fills)

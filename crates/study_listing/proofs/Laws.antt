@@ -3,7 +3,7 @@ use Prim.Native.Nat.{ℕ, zero, suc, _+_, _*_, _<_, _≤_}
 use mathlib.Core.Path.{_≡_, refl, sym}
 use mathlib.Core.List.{List, _++_}
 use lib.ListN.{length, take, length-append}
-use borrow.Author.Tests.{lt-leb, le-ltb}
+use borrow.Author.Tests.{le-ltb}
 use native.Mathlib.Numerals.{add-one}
 use native.Mathlib.Omega.{arith}
 use Rattle.answers.specs.Answers.{placeOf, left-by}
@@ -12,8 +12,8 @@ use Rattle.answers.specs.declared.Answer.{Answer}
 use Rattle.answers.specs.declared.Answer.the-variants.{Accepted}
 use Rattle.answers.specs.declared.Answer.the-variants.{Refused as No}
 use Rattle.lists.proofs.Laws.{over-nothing}
-use Rattle.study_format.proofs.Laws.{accepted}
-use Rattle.study.specs.Study.{icus, siteLimit, sitesOf, siteEntries, siteAnswer, judgement}
+use Rattle.study.proofs.Laws.{sites-few, file-fits}
+use Rattle.study.specs.Study.{limitBefore, sitesOf, siteEntries, judgement}
 use Rattle.study_theorems.proofs.Study.{decisive, front-decides}
 use Rattle.text.specs.Text.{Placed}
 use Rattle.text.proofs.Laws.{placed-next}
@@ -36,7 +36,7 @@ pub no-lines : (list file : List ℕ) → Placed list 0 (siteLines file 0) list 
 unfolding siteLines
 no-lines list file = record { is = sym (over-nothing list 0); next = refl }
 
-pub one-line-more : {list one two : List ℕ} {at past : ℕ} (file : List ℕ) (n : ℕ) → n < siteLimit → areaBytes ≤ length list
+pub one-line-more : {list one two : List ℕ} {at past : ℕ} (file : List ℕ) (n : ℕ) → n < limitBefore → areaBytes ≤ length list
     → Placed list 0 (siteLines file n) one at
     → Placed one at (siteLine (n + 1) (siteEntries file n)) two past
     → Placed list 0 (siteLines file (n + 1)) two past
@@ -44,10 +44,6 @@ unfolding siteLines
 one-line-more file n few room lines line =
     rw (add-one n)
     (placed-next lines line (omega (arith, length-siteLines file n, length-lineOf (n + 1) (siteOf (siteEntries file n)))))
-
--- a good file has each of its sites
-pub has-site : (file : List ℕ) (site : ℕ) → judgement file ≡ Accepted → site < sitesOf file → siteAnswer file site ≡ Accepted
-has-site file site good there = simp (good, lt-leb (sitesOf file) site there)
 
 -- the listing of a good file, and of a bad one
 
@@ -66,7 +62,7 @@ unfolding listing
 length-listing file = by (judgement file) refl
   where
     by : (answer : Answer) → judgement file ≡ answer → length (listingBy answer file) ≤ areaBytes
-    by Accepted good = omega (arith, length-siteLines file (sitesOf file), accepted icus file good .few)
+    by Accepted good = omega (arith, length-siteLines file (sitesOf file), sites-few file good)
     by (No why place) bad = omega (arith, length-fileLine place)
 
 -- so it is never refused for want of room there
@@ -83,5 +79,11 @@ unfolding listing
 front-lists file m enough long = by (judgement file) refl
   where
     by : (answer : Answer) → judgement file ≡ answer → listingBy (judgement (take m file)) (take m file) ≡ listingBy (judgement file) file
-    by Accepted good = absurd (omega (arith, accepted icus file good .few, accepted icus file good .size))
+    by Accepted good = absurd (omega (arith, file-fits file good))
     by (No why place) bad = rw (front-decides file m enough long, bad)
+
+-- files with the same sites, each with the same entries, have the same lines
+pub same-lines : (one other : List ℕ) (n : ℕ) → ((j : ℕ) → j < n → siteEntries one j ≡ siteEntries other j) → siteLines one n ≡ siteLines other n
+unfolding siteLines
+same-lines one other zero same = refl
+same-lines one other (suc n) same = rw (same-lines one other n (λ j h. same j (omega arith)), same n (omega arith))

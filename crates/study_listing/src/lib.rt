@@ -13,8 +13,8 @@ use answers::Answer;
 use study_lines::Rating;
 use study_lines::Site;
 
-// Room for the lines of as many sites as a file holds.
-pub const AREA_BYTES: usize = study_lines::LINE_BYTES * study::MOST_SITES;
+// Room for the lines of as many sites as a file that is read holds.
+pub const AREA_BYTES: usize = study_lines::LINE_BYTES * study::MOST_READ;
 
 // The picks of EB–WB and NB–SB.
 const FIRST_PICK_CELL: usize = layout::PAIRS_FROM + layout::PICK;

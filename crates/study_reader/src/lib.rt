@@ -1,4 +1,4 @@
-// The sites of a study file of any format: how many there are, and the block and the entries of each.
+// The sites of a study file of any format: how many there are, the block of each, and the entries of a block.
 ghost use mathlib.Core.Path.{_≡_};
 ghost use mathlib.Core.List.{[]};
 ghost use Prim.Native.Nat.{_+_, _≤_};
@@ -6,7 +6,6 @@ ghost use lib.ListN.{length};
 ghost use Rattle.answers.specs.Answers.{left-by};
 ghost use Rattle.answers.specs.declared.Answer.the-variants.{Accepted};
 ghost use Rattle.study_format.specs.Format.{sitesOf, blockBytes, blockPlace, countOf, siteAnswer, siteBlock, blockAnswer, blockEntries};
-ghost use Rattle.study_format.specs.Format.{siteEntriesAnswer, siteEntries};
 ghost use Rattle.study_format.specs.Working.{Modest};
 use answers::Answer;
 use answers::Refusal;
@@ -79,22 +78,4 @@ pub fn entries_of(format: Format, block: &[u8], entries: &mut [u32]) -> Answer
     }
     study_numbers::read_all(block, entries);
     Answer::Accepted
-}
-
-// The entries of a site of a file, into lent numbers: those of its block, which is empty only where the site is refused.
-pub fn site_entries(format: Format, file: &[u8], number: u32, entries: &mut [u32]) -> Answer
-    requires { ⌜ Modest format ⌝ }
-    ensures { λ r. ⌜ r ≡ siteEntriesAnswer format (now (file .entry)) number (length (now (entries .entry))) ⌝ }
-    ensures { λ r. ⌜ now (entries .exit)
-        ≡ left-by (siteEntriesAnswer format (now (file .entry)) number (length (now (entries .entry))))
-        (siteEntries format (now (file .entry)) number) (now (entries .entry)) ⌝ }
-{
-    if entries.len() != format.entries {
-        return Answer::Refused(Refusal::Size, 0);
-    }
-    let block = site(format, file, number);
-    if block.len() == 0 {
-        return site_answer(format, file, number);
-    }
-    entries_of(format, block, entries)
 }

@@ -1,3 +1,4 @@
+pub mod Sites
 pub mod LongFile
 pub mod RoundTrip
 pub mod Study

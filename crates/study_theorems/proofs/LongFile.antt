@@ -23,7 +23,7 @@ use Rattle.study_format.proofs.Laws.{within-largest}
 abbrev pub decisive : Format → ℕ
 decisive f = fileBytes f (f .most) + 1
 
-starts-front : (file bytes : List ℕ) (m : ℕ) → length bytes ≤ m → startsWith (take m file) bytes ≡ startsWith file bytes
+pub starts-front : (file bytes : List ℕ) (m : ℕ) → length bytes ≤ m → startsWith (take m file) bytes ≡ startsWith file bytes
 unfolding startsWith
 starts-front file [] m h = refl
 starts-front file (byte ∷ bytes) zero h = absurd (omega arith)

@@ -11,7 +11,6 @@ use native.Mathlib.Nat.{mul-le-mul-left, mul-div-cancel-left, mul-mod-right}
 use native.Mathlib.Omega.{arith}
 use Rattle.lists.specs.Lists.{AllBelow, table, over}
 use Rattle.lists.proofs.Laws.{length-table, table-at, table-join, table-same, front-over}
-use Rattle.lists.proofs.Tests.{both-true}
 use Rattle.study_numbers.specs.Numbers.{numberBytes, numberLimit, byteLimit, numberAt, numbersIn, packed}
 use Rattle.study_numbers.proofs.Laws.{length-packed}
 use Rattle.study_numbers.proofs.RoundTrip.{number-past, number-take, number-drop, number-packed, packed-numbers}
@@ -21,26 +20,17 @@ use Rattle.answers.specs.declared.Answer.the-variants.{Accepted}
 use Rattle.answers.proofs.Laws.{both-accepted, not-refused}
 use Rattle.study_format.specs.declared.Format.{Format}
 use Rattle.study_format.specs.Format.{countPlace, roomPlace, sitesOf, offsetPlace, startsWith, blockBytes, blockPlace, fileBytes}
-use Rattle.study_format.specs.Format.{judgement, countOf, siteAnswer, siteBlock, siteEntries, entriesUpTo, sitesIn, writeAnswer, offsets, fileOf}
-use Rattle.study_format.specs.Format.{siteEntriesAnswer}
-use Rattle.study_format.specs.Working.{Modest}
-use Rattle.study_format.proofs.Laws.{WellLaidOut, accepted, laid-out, places-fit}
+use Rattle.study_format.specs.Format.{judgement, countOf, siteAnswer, siteBlock, siteEntries, sitesIn, writeAnswer, offsets, fileOf}
+use Rattle.study_format.specs.Working.{Modest, entriesUpTo}
+use Rattle.study_format.proofs.Laws.{WellLaidOut, starts-with, accepted, laid-out, places-fit}
 use Rattle.study_writer.proofs.Laws.{whole-sites, writable}
 
--- bytes begin with others where those stand at their front
+-- bytes begin with what stands at their front
 
 starts-self : (bytes rest : List ℕ) → startsWith (bytes ++ rest) bytes ≡ true
 unfolding startsWith
 starts-self [] rest = refl
 starts-self (byte ∷ bytes) rest = rw (eq-eqb byte byte refl) (starts-self bytes rest)
-
-starts-with : (file bytes : List ℕ) → startsWith file bytes ≡ true → take (length bytes) file ≡ bytes
-unfolding startsWith
-starts-with file [] e = refl
-starts-with [] (byte ∷ bytes) e = absurd (let z : _≡_ {A = ℕ} 0 1 = cc in omega arith)
-starts-with (first ∷ file) (byte ∷ bytes) e =
-    let both = both-true (eqb first byte) (startsWith file bytes) e in
-    rw (eqb-true first byte (both .0), starts-with file bytes (both .1))
 
 -- what reading finds in a file that holds these entries
 pub record ReadBack (f : Format) (entries bytes : List ℕ) : Type 0 where
@@ -81,7 +71,7 @@ module _ (f : Format) where
 -- written and read back
 
 module _ (f : Format) (ok : Modest f) where
-  sites-in : (entries : List ℕ) (k : ℕ) → length entries ≡ f .entries * k → sitesIn f entries ≡ k
+  pub sites-in : (entries : List ℕ) (k : ℕ) → length entries ≡ f .entries * k → sitesIn f entries ≡ k
   sites-in entries k sites = ap (λ n. n / f .entries) sites ∙ mul-div-cancel-left k (ok .entries)
 
   -- the entries of k sites, each a u32
@@ -148,7 +138,7 @@ module _ (f : Format) (ok : Modest f) where
     unfolding file fileOf
     file-is = rw (sites-in entries k sites)
 
-    file-back : ReadBack f entries (fileOf f entries)
+    pub file-back : ReadBack f entries (fileOf f entries)
     file-back =
         let e = sites-in entries k sites in
         let good = laid-out f file file-laid in
@@ -247,13 +237,7 @@ read-written f ok bytes small e =
     simp e (rw (k-sites, fields-are f bytes laid, back) (ap (λ front. front ++ rest) (sym opened) ∙ take-append-drop countPlace bytes))
 
 module _ (f : Format) (ok : Modest f) (bytes : List ℕ) (good : judgement f bytes ≡ Accepted) where
-  -- each site of a good file is given to whoever has room for its entries
-  pub site-given : (site room : ℕ) → site < countOf f bytes → room ≡ f .entries → siteEntriesAnswer f bytes site room ≡ Accepted
-  site-given site room there sized =
-      let below : site < sitesOf bytes = rw good at there in
-      simp (eq-eqb room (f .entries) sized, good, lt-leb (sitesOf bytes) site below)
-
-  -- and its sites' entries are accepted for writing wherever there is room for it
+  -- the sites' entries of a good file are accepted for writing wherever there is room for it
   pub accepted-again : (room : ℕ) → length bytes ≤ room → writeAnswer f (entriesUpTo f bytes (countOf f bytes)) room ≡ Accepted
   accepted-again room fits =
       let laid = accepted f bytes good in

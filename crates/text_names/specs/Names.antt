@@ -41,6 +41,7 @@ rows =
     "ideal-flow      " ∷
     "lost-time       " ∷
     "minimum-green   " ∷
+    "lane-factor     " ∷
     "shared-lane     " ∷
     "pedestrians     " ∷
     "push-button     " ∷

@@ -45,6 +45,7 @@ const TABLE: [u8; WIDTH * WORDS as usize] = *b"EBL             \
     ideal-flow      \
     lost-time       \
     minimum-green   \
+    lane-factor     \
     shared-lane     \
     pedestrians     \
     push-button     \

@@ -5,7 +5,7 @@ use Rattle.answers.specs.declared.Refusal.the-variants.{Range, Shared, NoLane}
 use Rattle.answers.specs.declared.Answer.the-variants.{Refused as No}
 use Rattle.text_times.specs.Times.{decimals, fractionText, timeText}
 use Rattle.text_values.specs.Values.{valueText}
-use Rattle.layout.specs.Entries.{lostNo, buttonNo, cycleEntry, approachPlace, through, EB, NB}
+use Rattle.layout.specs.Entries.{lostNo, factorNo, buttonNo, cycleEntry, approachPlace, through, EB, NB}
 use Rattle.kinds.specs.Kinds.{kindAt}
 use Rattle.text_names.specs.Names.{wordTable, wordIn, classAt}
 use Rattle.text_values.specs.declared.Trouble.the-variants.{Unknown, NotNumber}
@@ -15,14 +15,18 @@ use Rattle.text.specs.Text.{ascii, joined, digits, decimal, firstIn}
 use Rattle.text_quotes.specs.Quotes.{shown, restMark, quoted}
 use Rattle.text_phrases.specs.Phrases.{numbered, nameIn}
 use Rattle.text_places.specs.Places.{lineAt, columnAt, placeText}
-use Rattle.text_refusals.specs.Refusals.{limitsText, rangeText, whyText, refusalText, answerText, readingText}
+use Rattle.text_refusals.specs.Refusals.{apartText, spanText, limitsText, rangeText, whyText, refusalText, answerText, readingText}
 
 time : rangeText lostNo ≡ ascii "EBL lost-time is outside 0s to 20s\n"
-unfolding ascii joined digits decimal decimals fractionText timeText valueText kindAt classAt wordTable wordIn nameIn limitsText rangeText
+unfolding ascii joined digits decimal decimals fractionText timeText valueText kindAt classAt wordTable wordIn nameIn apartText spanText limitsText rangeText
 time = refl
 
+apart : rangeText factorNo ≡ ascii "EBL lane-factor is outside 0 or 0.5 to 1\n"
+unfolding ascii joined digits decimal decimals fractionText valueText kindAt classAt wordTable wordIn nameIn apartText spanText limitsText rangeText
+apart = refl
+
 range : answerText (No Range (approachPlace EB buttonNo)) ≡ ascii "R3: EB push-button is outside 0 to 1\n"
-unfolding ascii joined digits decimal numbered valueText kindAt classAt wordTable wordIn nameIn limitsText rangeText whyText refusalText
+unfolding ascii joined digits decimal numbered valueText kindAt classAt wordTable wordIn nameIn apartText spanText limitsText rangeText whyText refusalText
 range = refl
 
 shared : answerText (No Shared NB) ≡ ascii "R4: NB: a shared lane needs a through lane and no left lane beside it\n"
@@ -42,7 +46,7 @@ unfolding ascii table firstIn shown restMark quoted digits decimal numbered line
 unknown = refl
 
 cycle : answerText (No Range cycleEntry) ≡ ascii "R3: junction cycle is outside 30 to 240\n"
-unfolding ascii joined digits decimal numbered valueText kindAt classAt wordTable wordIn nameIn limitsText rangeText whyText refusalText
+unfolding ascii joined digits decimal numbered valueText kindAt classAt wordTable wordIn nameIn apartText spanText limitsText rangeText whyText refusalText
 cycle = refl
 
 refused : readingText (ascii "junction cycle 29") (Refused Range cycleEntry 15) ≡ ascii "line 1, column 16: " ++ answerText (No Range cycleEntry)

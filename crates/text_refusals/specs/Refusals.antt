@@ -23,9 +23,17 @@ use Rattle.text_troubles.specs.Troubles.{troubleText}
 use Rattle.text_reader.specs.declared.Reading.{Reading}
 use Rattle.text_reader.specs.declared.Reading.the-variants.{Read, Misread, Refused}
 
--- "0 to 6", "0s to 20s": the limits of a kind, as its values are typed
+-- "0 or ", where the usual value stands apart, below the range
+unfoldable pub apartText : Kind → List ℕ
+apartText kind = cond (ltb (limitsOf kind .usual) (limitsOf kind .least)) (valueText kind (limitsOf kind .usual) ++ ascii " or ") []
+
+-- "0 to 6", "0s to 20s"
+unfoldable pub spanText : Kind → List ℕ
+spanText kind = valueText kind (limitsOf kind .least) ++ ascii " to " ++ valueText kind (limitsOf kind .most) ++ ascii "\n"
+
+-- the limits of a kind, as its values are typed: "0 to 6", "0 or 0.5 to 1"
 unfoldable pub limitsText : Kind → List ℕ
-limitsText kind = valueText kind (limitsOf kind .least) ++ ascii " to " ++ valueText kind (limitsOf kind .most) ++ ascii "\n"
+limitsText kind = apartText kind ++ spanText kind
 
 -- "the storage is outside 1 to 999"
 unfoldable pub outsideText : List ℕ → Kind → List ℕ

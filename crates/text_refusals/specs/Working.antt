@@ -3,9 +3,16 @@ use Prim.Native.Nat.{ℕ, _+_}
 use Rattle.text.specs.Text.{digitMost}
 use Rattle.text_values.specs.Working.{valueMost}
 
+-- a value and " or "
+abbrev pub apartMost : ℕ
+apartMost = valueMost + 4
+
 -- two values, " to " between them, and the end of the line
+abbrev pub spanMost : ℕ
+spanMost = valueMost + 4 + valueMost + 1
+
 abbrev pub limitsMost : ℕ
-limitsMost = valueMost + 4 + valueMost + 1
+limitsMost = apartMost + spanMost
 
 -- " is outside " and the limits
 abbrev pub outsideMost : ℕ
@@ -13,7 +20,7 @@ outsideMost = 12 + limitsMost
 
 -- the longest sentence of a refusal, a shared lane's, has 82; the rest is room for another
 abbrev pub whyMost : ℕ
-whyMost = 96
+whyMost = 112
 
 -- "R", the refusal's number and ": " before it
 abbrev pub refusalMost : ℕ

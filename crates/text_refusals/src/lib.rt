@@ -4,9 +4,9 @@ ghost use mathlib.Core.Path.{_≡_};
 ghost use lib.ListN.{length};
 ghost use Rattle.text.specs.Text.{Placed};
 ghost use Rattle.text_troubles.specs.Troubles.{troubleText};
-ghost use Rattle.text_refusals.specs.Refusals.{limitsText, outsideText, rangeText, approachRow, fileText, whyText};
+ghost use Rattle.text_refusals.specs.Refusals.{apartText, spanText, limitsText, outsideText, rangeText, approachRow, fileText, whyText};
 ghost use Rattle.text_refusals.specs.Refusals.{refusalText, answerText, saidOf, readingText};
-ghost use Rattle.text_refusals.specs.Working.{limitsMost, outsideMost, whyMost, refusalMost};
+ghost use Rattle.text_refusals.specs.Working.{apartMost, spanMost, limitsMost, outsideMost, whyMost, refusalMost};
 use answers::Answer;
 use answers::Refusal;
 use kinds::Kind;
@@ -16,16 +16,38 @@ use text_values::Trouble;
 // Room for anything that is said: a place, and a refusal or a trouble.
 pub const SAYING_BYTES: usize = 256;
 
-// The limits of a kind, as its values are typed, at the end of a line.
-fn put_limits(out: &mut [u8], at: usize, kind: Kind) -> usize
-    requires { ⌜ at + limitsMost ≤ length (now out) ⌝ }
-    ensures { λ r. ⌜ Placed (now (out .entry)) at (limitsText kind) (now (out .exit)) r × (r ≤ at + limitsMost) ⌝ }
+// A usual value that stands below the range of its kind.
+fn put_apart(out: &mut [u8], at: usize, kind: Kind) -> usize
+    requires { ⌜ at + apartMost ≤ length (now out) ⌝ }
+    ensures { λ r. ⌜ Placed (now (out .entry)) at (apartText kind) (now (out .exit)) r × (r ≤ at + apartMost) ⌝ }
+{
+    let limits = kind.limits();
+    if limits.least <= limits.usual {
+        return at;
+    }
+    let usual = text_values::put_value(out, at, kind, limits.usual);
+    text::put_bytes(out, usual, b" or ")
+}
+
+// The range of a kind, at the end of a line.
+fn put_span(out: &mut [u8], at: usize, kind: Kind) -> usize
+    requires { ⌜ at + spanMost ≤ length (now out) ⌝ }
+    ensures { λ r. ⌜ Placed (now (out .entry)) at (spanText kind) (now (out .exit)) r × (r ≤ at + spanMost) ⌝ }
 {
     let limits = kind.limits();
     let least = text_values::put_value(out, at, kind, limits.least);
     let parted = text::put_bytes(out, least, b" to ");
     let most = text_values::put_value(out, parted, kind, limits.most);
     text::put_byte(out, most, b'\n')
+}
+
+// What a kind takes, as its values are typed, at the end of a line.
+fn put_limits(out: &mut [u8], at: usize, kind: Kind) -> usize
+    requires { ⌜ at + limitsMost ≤ length (now out) ⌝ }
+    ensures { λ r. ⌜ Placed (now (out .entry)) at (limitsText kind) (now (out .exit)) r × (r ≤ at + limitsMost) ⌝ }
+{
+    let told = put_apart(out, at, kind);
+    put_span(out, told, kind)
 }
 
 // What a number of a diamond is outside of.

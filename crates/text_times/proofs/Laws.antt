@@ -7,8 +7,9 @@ use lib.ListN.{length, getD, take, drop, length-append}
 use lib.Dec.{eqb, leb}
 use borrow.Author.Tests.{leb-true, lt-ltb, le-ltb}
 use native.Mathlib.Omega.{arith}
-use Rattle.text_times.specs.Times.{second, point, letterS, pointIn, thousandths, together, secondsOf, fromEnd, decimals, fractionText, timeText}
-use Rattle.text_times.specs.Working.{fractionMost, timeMost}
+use Rattle.text_times.specs.Times.{second, point, letterS, pointIn, thousandths, together, decimalOf, fromEnd}
+use Rattle.text_times.specs.Times.{decimals, fractionText, decimalText, timeText}
+use Rattle.text_times.specs.Working.{fractionMost, decimalMost, timeMost}
 use Rattle.text.specs.Text.{digit, decimal}
 use Rattle.text.proofs.Laws.{length-decimal}
 use Rattle.text_numbers.specs.Numbers.{tooLarge, numberOf}
@@ -27,13 +28,13 @@ module _ (seconds part : ℕ) where
 -- seconds without a point, and with one
 
 module _ (word : List ℕ) (at : ℕ) (is : at ≡ pointIn word) where
-  pub seconds-whole : at ≡ length word → secondsOf word ≡ together (numberOf word) 0
-  unfolding secondsOf
-  seconds-whole end = rw (← is, le-ltb at (length word) (omega arith))
+  pub decimal-whole : at ≡ length word → decimalOf word ≡ together (numberOf word) 0
+  unfolding decimalOf
+  decimal-whole end = rw (← is, le-ltb at (length word) (omega arith))
 
-  pub seconds-parted : at < length word → secondsOf word ≡ together (numberOf (take at word)) (thousandths (drop (at + 1) word))
-  unfolding secondsOf
-  seconds-parted h = rw (← is, lt-ltb at (length word) h)
+  pub decimal-parted : at < length word → decimalOf word ≡ together (numberOf (take at word)) (thousandths (drop (at + 1) word))
+  unfolding decimalOf
+  decimal-parted h = rw (← is, lt-ltb at (length word) h)
 
 -- a byte that stands so far before a word's end
 pub from-end-some : (word : List ℕ) (n byte : ℕ) → fromEnd word n ≡ byte → 0 < byte → n ≤ length word
@@ -76,15 +77,15 @@ length-fraction part = by (eqb part 0)
     by true = omega arith
     by false = omega (arith, length-decimals part)
 
-pub length-time : (time : ℕ) → length (timeText time) ≤ timeMost
-unfolding timeText
-length-time time =
-    let whole = decimal (time / second) in
-    let past = fractionText (time % second) in
+pub length-decimalText : (number : ℕ) → length (decimalText number) ≤ decimalMost
+length-decimalText number =
     omega (
       arith,
-      length-append (whole ++ past) (letterS ∷ []),
-      length-append whole past,
-      length-decimal (time / second),
-      length-fraction (time % second),
+      length-append (decimal (number / second)) (fractionText (number % second)),
+      length-decimal (number / second),
+      length-fraction (number % second),
     )
+
+pub length-time : (time : ℕ) → length (timeText time) ≤ timeMost
+unfolding timeText
+length-time time = omega (arith, length-append (decimalText time) (letterS ∷ []), length-decimalText time)

@@ -13,9 +13,9 @@ use Rattle.text.specs.Text.{digit, decimal, firstIn}
 use Rattle.text.proofs.Laws.{decimal-digits, first-after}
 use Rattle.text_numbers.specs.Numbers.{tooLarge, nextNumber, numberIn, digitsOf, numberOf}
 use Rattle.text_numbers.proofs.Laws.{next-digit, decimal-some, number-read}
-use Rattle.text_times.specs.Times.{second, point, letterS, letterM, isPoint, pointIn, scaled, thousandths, secondsOf, fromEnd, without, timeOf}
-use Rattle.text_times.specs.Times.{decimals, fractionText, timeText}
-use Rattle.text_times.proofs.Laws.{together-small, seconds-whole, seconds-parted, tenth, hundredth, thousandth, asDigits}
+use Rattle.text_times.specs.Times.{second, point, letterS, letterM, isPoint, pointIn, scaled, thousandths, decimalOf, fromEnd, without, timeOf}
+use Rattle.text_times.specs.Times.{decimals, fractionText, decimalText, timeText}
+use Rattle.text_times.proofs.Laws.{together-small, decimal-whole, decimal-parted, tenth, hundredth, thousandth, asDigits}
 
 -- what each byte of a list is
 
@@ -123,23 +123,23 @@ thousandths-read part small = by (eqb (part % 100) 0) refl (eqb (part % 10) 0) r
         let three = three-digits (tenth part) (omega arith) (hundredth part) (omega arith) (thousandth part) (omega arith) in
         thousandths-scaled (digit (tenth part) ∷ digit (hundredth part) ∷ digit (thousandth part) ∷ []) three (omega arith) (omega arith)
 
--- the seconds with what stands past them
+-- whole ones with what stands past them
 
 module _ (whole part : ℕ) (small : part < second) (fits : second * whole + part < tooLarge) where
-  seconds-read : secondsOf (decimal whole ++ fractionText part) ≡ second * whole + part
+  parts-read : decimalOf (decimal whole ++ fractionText part) ≡ second * whole + part
   unfolding fractionText firstIn
-  seconds-read = by (eqb part 0) refl
+  parts-read = by (eqb part 0) refl
     where
       digits : List ℕ
       digits = decimal whole
 
-      by : (b : Bool) → eqb part 0 ≡ b → secondsOf (digits ++ cond b [] (point ∷ decimals part)) ≡ second * whole + part
+      by : (b : Bool) → eqb part 0 ≡ b → decimalOf (digits ++ cond b [] (point ∷ decimals part)) ≡ second * whole + part
       by true e =
           let none = eqb-true part 0 e in
           let end : length digits ≡ pointIn digits = sym (rw (append-nil digits) at (point-after whole []) ∙ omega arith) in
           rw (
             append-nil digits,
-            seconds-whole digits (length digits) end refl,
+            decimal-whole digits (length digits) end refl,
             number-read whole (omega arith),
             together-small whole 0 (omega arith),
           )
@@ -149,7 +149,7 @@ module _ (whole part : ℕ) (small : part < second) (fits : second * whole + par
           let at = length digits in
           let here : at ≡ pointIn (digits ++ rest) = sym (point-after whole rest ∙ omega arith) in
           rw (
-            seconds-parted (digits ++ rest) at here (omega (arith, length-append digits rest)),
+            decimal-parted (digits ++ rest) at here (omega (arith, length-append digits rest)),
             take-append-seam digits rest,
             drop-append-add digits rest 1,
             number-read whole (omega arith),
@@ -182,17 +182,25 @@ module _ (front : List ℕ) (byte : ℕ) where
 
 module _ (time : ℕ) (fits : time < tooLarge) where
   abbrev untilUnit : List ℕ
-  untilUnit = decimal (time / second) ++ fractionText (time % second)
+  untilUnit = decimalText time
 
   numerals : Each Numeral untilUnit
   numerals =
       each-both Numeral (decimal (time / second)) (fractionText (time % second)) (decimal-numeral (time / second))
       (fraction-numeral (time % second) (omega arith))
 
-  some-bytes : 0 < length untilUnit
+  pub some-bytes : 0 < length untilUnit
   some-bytes =
       omega (arith, length-append (decimal (time / second)) (fractionText (time % second)), decimal-some (time / second) (omega arith))
 
+  -- so without a unit the thousandths are read, and it is one word of a text
+  pub decimal-read : decimalOf (decimalText time) ≡ time
+  decimal-read = parts-read (time / second) (time % second) (omega arith) (omega arith) ∙ omega arith
+
+  pub decimal-bytes : Each (λ byte. point ≤ byte) (decimalText time)
+  decimal-bytes i h = numerals i h .0
+
+  -- and with it the time
   pub time-read : timeOf (timeText time) ≡ time
   unfolding timeOf timeText
   time-read =
@@ -202,9 +210,8 @@ module _ (time : ℕ) (fits : time < tooLarge) where
         byte-before untilUnit letterS some-bytes,
         ne-eqb (getD untilUnit (length untilUnit - 1) 0) letterM (λ e. omega (arith, last .1, e)),
         without-last untilUnit letterS,
-        seconds-read (time / second) (time % second) (omega arith) (omega arith),
       )
-      (omega arith)
+      decimal-read
 
   -- none of its bytes stands before the point in ASCII: it is one word of a text
   pub time-bytes : Each (λ byte. point ≤ byte) (timeText time)

@@ -1,4 +1,5 @@
--- Times in a text, with their unit: "4s", "4.5s", "4.125s" or "4000ms". A time is a whole number of milliseconds.
+-- Times in a text, with their unit: "4s", "4.5s", "4.125s" or "4000ms", a whole number of milliseconds; and factors, without one: "0.971",
+-- a whole number of thousandths.
 use Prim.Native.Nat.{ℕ, _+_, _*_, _-_, _/_, _%_, min, max}
 use mathlib.Core.Bool.{Bool, cond}
 use mathlib.Core.List.{List, [], _∷_, _++_}
@@ -7,7 +8,7 @@ use lib.Dec.{eqb, leb, ltb}
 use Rattle.text.specs.Text.{digit, decimal, firstIn}
 use Rattle.text_numbers.specs.Numbers.{tooLarge, notNumber, numberOf}
 
--- a second has so many milliseconds
+-- a second has so many milliseconds, and one so many thousandths
 abbrev pub second : ℕ
 second = 1000
 
@@ -37,13 +38,13 @@ scaled number digits = cond (eqb digits 1) (100 * number) (cond (eqb digits 2) (
 unfoldable pub thousandths : List ℕ → ℕ
 thousandths word = cond (ltb (numberOf word) tooLarge) (scaled (numberOf word) (length word)) notNumber
 
--- seconds, and the thousandths past their point
+-- whole ones, and the thousandths past their point
 unfoldable pub together : ℕ → ℕ → ℕ
 together seconds part = cond (ltb (max seconds part) tooLarge) (min (second * seconds + part) tooLarge) (max seconds part)
 
--- "4", "4.5": with a point there are digits before and past it
-unfoldable pub secondsOf : List ℕ → ℕ
-secondsOf word =
+-- the thousandths that a word spells: "4", "4.5"; with a point there are digits before and past it
+unfoldable pub decimalOf : List ℕ → ℕ
+decimalOf word =
     cond (ltb (pointIn word) (length word))
     (together (numberOf (take (pointIn word) word)) (thousandths (drop (pointIn word + 1) word)))
     (together (numberOf word) 0)
@@ -59,7 +60,7 @@ without word n = take (length word - n) word
 unfoldable pub timeOf : List ℕ → ℕ
 timeOf word =
     cond (eqb (fromEnd word 1) letterS)
-    (cond (eqb (fromEnd word 2) letterM) (numberOf (without word 2)) (secondsOf (without word 1)))
+    (cond (eqb (fromEnd word 2) letterM) (numberOf (without word 2)) (decimalOf (without word 1)))
     notNumber
 
 -- ---- written
@@ -75,6 +76,10 @@ decimals part =
 unfoldable pub fractionText : ℕ → List ℕ
 fractionText part = cond (eqb part 0) [] (point ∷ decimals part)
 
+-- "4", "4.5", "0.007"
+abbrev pub decimalText : ℕ → List ℕ
+decimalText number = decimal (number / second) ++ fractionText (number % second)
+
 -- "4s", "4.5s", "0.007s"
 unfoldable pub timeText : ℕ → List ℕ
-timeText time = decimal (time / second) ++ fractionText (time % second) ++ (letterS ∷ [])
+timeText time = decimalText time ++ (letterS ∷ [])

@@ -6,6 +6,10 @@ use Rattle.text.specs.Text.{digitMost}
 abbrev pub fractionMost : ℕ
 fractionMost = 4
 
--- the seconds, what stands past them, and the unit
+-- whole ones, and what stands past them
+abbrev pub decimalMost : ℕ
+decimalMost = digitMost + fractionMost
+
+-- and the unit
 abbrev pub timeMost : ℕ
-timeMost = digitMost + fractionMost + 1
+timeMost = decimalMost + 1

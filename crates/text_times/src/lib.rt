@@ -1,16 +1,16 @@
-// Times in a text, with their unit: read, and put at a place.
+// Times in a text, with their unit, and factors, without one: read, and put at a place.
 ghost use mathlib.Core.Path.{_≡_};
 ghost use Prim.Native.Nat.{_+_, _≤_, _<_, _^_};
 ghost use lib.ListN.{length};
 ghost use Rattle.text.specs.Text.{Placed};
-ghost use Rattle.text_times.specs.Times.{second, pointIn, scaled, thousandths, together, secondsOf, fromEnd, timeOf};
-ghost use Rattle.text_times.specs.Times.{decimals, fractionText, timeText};
-ghost use Rattle.text_times.specs.Working.{fractionMost, timeMost};
+ghost use Rattle.text_times.specs.Times.{second, pointIn, scaled, thousandths, together, decimalOf, fromEnd, timeOf};
+ghost use Rattle.text_times.specs.Times.{decimals, fractionText, decimalText, timeText};
+ghost use Rattle.text_times.specs.Working.{fractionMost, decimalMost, timeMost};
 ghost use Rattle.text_numbers.specs.Numbers.{tooLarge, notNumber};
 use text_numbers::NOT_NUMBER;
 use text_numbers::TOO_LARGE;
 
-// A second has so many milliseconds.
+// A second has so many milliseconds, and one so many thousandths.
 const SECOND: u32 = 1_000;
 
 // A point and three digits.
@@ -73,8 +73,9 @@ fn together(seconds: u64, part: u64) -> u64
     time
 }
 
-fn seconds_of(word: &[u8]) -> u64
-    ensures { λ r. ⌜ r ≡ secondsOf (now (word .entry)) ⌝ }
+// The thousandths that a word without a unit spells; TOO_LARGE if they need more than 32 bits, NOT_NUMBER if it is no number.
+pub fn decimal_of(word: &[u8]) -> u64
+    ensures { λ r. ⌜ r ≡ decimalOf (now (word .entry)) ⌝ }
 {
     let at = point_in(word);
     if at == word.len() {
@@ -107,7 +108,7 @@ pub fn time_of(word: &[u8]) -> u64
         return text_numbers::number_of(&word[..end]);
     }
     let end = word.len() - 1;
-    seconds_of(&word[..end])
+    decimal_of(&word[..end])
 }
 
 fn put_decimals(out: &mut [u8], at: usize, part: u32) -> usize
@@ -137,12 +138,20 @@ fn put_fraction(out: &mut [u8], at: usize, part: u32) -> usize
     put_decimals(out, pointed, part)
 }
 
+// Thousandths as whole ones with their decimals.
+pub fn put_decimal(out: &mut [u8], at: usize, number: u32) -> usize
+    requires { ⌜ at + decimalMost ≤ length (now out) ⌝ }
+    ensures { λ r. ⌜ Placed (now (out .entry)) at (decimalText number) (now (out .exit)) r × (r ≤ at + decimalMost) ⌝ }
+{
+    let whole = text::put_number(out, at, number / SECOND);
+    put_fraction(out, whole, number % SECOND)
+}
+
 // A time in seconds, with its unit.
 pub fn put_time(out: &mut [u8], at: usize, time: u32) -> usize
     requires { ⌜ at + timeMost ≤ length (now out) ⌝ }
     ensures { λ r. ⌜ Placed (now (out .entry)) at (timeText time) (now (out .exit)) r × (r ≤ at + timeMost) ⌝ }
 {
-    let whole = text::put_number(out, at, time / SECOND);
-    let end = put_fraction(out, whole, time % SECOND);
+    let end = put_decimal(out, at, time);
     text::put_byte(out, end, b's')
 }

@@ -1,9 +1,9 @@
-// The values of entries in a text: a time with its unit where the entry is a time, else a whole number.
+// The values of entries in a text: a time with its unit, a factor with its decimals, or a whole number.
 ghost use mathlib.Core.Path.{_≡_};
 ghost use Prim.Native.Nat.{_+_, _≤_};
 ghost use lib.ListN.{length};
 ghost use Rattle.text.specs.Text.{Placed};
-ghost use Rattle.text_values.specs.Values.{isTime, valueFrom, valueOf, valueText};
+ghost use Rattle.text_values.specs.Values.{formOf, valueFrom, valueOf, valueText};
 ghost use Rattle.text_values.specs.Working.{valueMost};
 use kinds::Kind;
 use text_numbers::TOO_LARGE;
@@ -19,6 +19,7 @@ pub enum Trouble {
     Twice,
     NotNumber,
     NotTime,
+    NotFactor,
     TooLarge,
     Ends,
     TooLong,
@@ -31,24 +32,33 @@ pub enum Value {
     Not(Trouble),
 }
 
-// Whether entries of a kind are times.
-fn is_time(kind: Kind) -> bool
-    ensures { λ r. ⌜ r ≡ isTime kind ⌝ }
-{
-    match kind {
-        Kind::Lanes => false,
-        Kind::Volume => false,
-        Kind::IdealFlow => false,
-        Kind::LostTime => true,
-        Kind::MinimumGreen => true,
-        Kind::SharedLane => false,
-        Kind::Pedestrians => false,
-        Kind::PushButton => false,
-        Kind::PedestrianTime => true,
-        Kind::FreeRight => false,
-        Kind::Cycle => false,
-        Kind::Storage => false,
-        Kind::TravelTime => true,
+// How the values of a kind are written: whole, as times in milliseconds, or as factors in thousandths.
+pub enum Form {
+    Number,
+    Time,
+    Factor,
+}
+
+impl Form {
+    fn of(kind: Kind) -> Form
+        ensures { λ r. ⌜ r ≡ formOf kind ⌝ }
+    {
+        match kind {
+            Kind::Lanes => Form::Number,
+            Kind::Volume => Form::Number,
+            Kind::IdealFlow => Form::Number,
+            Kind::LostTime => Form::Time,
+            Kind::MinimumGreen => Form::Time,
+            Kind::LaneFactor => Form::Factor,
+            Kind::SharedLane => Form::Number,
+            Kind::Pedestrians => Form::Number,
+            Kind::PushButton => Form::Number,
+            Kind::PedestrianTime => Form::Time,
+            Kind::FreeRight => Form::Number,
+            Kind::Cycle => Form::Number,
+            Kind::Storage => Form::Number,
+            Kind::TravelTime => Form::Time,
+        }
     }
 }
 
@@ -68,19 +78,21 @@ fn value_from(why: Trouble, number: u64) -> Value
 pub fn value_of(kind: Kind, word: &[u8]) -> Value
     ensures { λ r. ⌜ r ≡ valueOf kind (now (word .entry)) ⌝ }
 {
-    if is_time(kind) {
-        return value_from(Trouble::NotTime, text_times::time_of(word));
+    match Form::of(kind) {
+        Form::Number => value_from(Trouble::NotNumber, text_numbers::number_of(word)),
+        Form::Time => value_from(Trouble::NotTime, text_times::time_of(word)),
+        Form::Factor => value_from(Trouble::NotFactor, text_times::decimal_of(word)),
     }
-    value_from(Trouble::NotNumber, text_numbers::number_of(word))
 }
 
-// A value of an entry of that kind, put at a place: times in seconds, with their unit.
+// A value of an entry of that kind, put at a place: times in seconds, with their unit, factors with their decimals.
 pub fn put_value(out: &mut [u8], at: usize, kind: Kind, value: u32) -> usize
     requires { ⌜ at + valueMost ≤ length (now out) ⌝ }
     ensures { λ r. ⌜ Placed (now (out .entry)) at (valueText kind value) (now (out .exit)) r × (r ≤ at + valueMost) ⌝ }
 {
-    if is_time(kind) {
-        return text_times::put_time(out, at, value);
+    match Form::of(kind) {
+        Form::Number => text::put_number(out, at, value),
+        Form::Time => text_times::put_time(out, at, value),
+        Form::Factor => text_times::put_decimal(out, at, value),
     }
-    text::put_number(out, at, value)
 }

@@ -4,10 +4,10 @@ use crate::sheet::allowed;
 use crate::{sys, Approach, Entries, Refusal, Turn};
 use std::fmt;
 
-const RECORD: usize = 167;
-const EAST: usize = 81;
-const STORAGES: usize = 162;
-const TRAVEL: usize = 166;
+const RECORD: usize = 191;
+const EAST: usize = 93;
+const STORAGES: usize = 186;
+const TRAVEL: usize = 190;
 /// Where the times of the sides, the plans and what is picked stand among the cells.
 const ISOLATED: usize = 14;
 const PLANS: usize = 22;

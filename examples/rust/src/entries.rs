@@ -1,4 +1,6 @@
-//! The 81 entries of a junction, by name.
+//! The 93 entries of a junction, by name.
+
+use std::fmt;
 
 #[derive(Clone, Copy, Debug, PartialEq, Eq, Hash)]
 pub enum Approach {
@@ -41,6 +43,8 @@ pub enum Entry {
     LostTime(Approach, Turn),
     /// Milliseconds.
     MinimumGreen(Approach, Turn),
+    /// How evenly the lanes are used, in thousandths; see [`LaneFactor`].
+    LaneFactor(Approach, Turn),
     /// 1 where a through lane is shared with the lefts.
     SharedLane(Approach),
     /// Pedestrians per hour.
@@ -56,40 +60,42 @@ pub enum Entry {
 }
 
 impl Entry {
-    /// Where the entry stands among the 81.
+    /// Where the entry stands among the 93.
     pub fn place(self) -> usize {
-        let movement = |a: Approach, t: Turn| 5 * (3 * a as usize + t as usize);
-        let approach = |a: Approach| 60 + 5 * a as usize;
+        let movement = |a: Approach, t: Turn| 6 * (3 * a as usize + t as usize);
+        let approach = |a: Approach| 72 + 5 * a as usize;
         match self {
             Entry::Lanes(a, t) => movement(a, t),
             Entry::Volume(a, t) => movement(a, t) + 1,
             Entry::IdealFlow(a, t) => movement(a, t) + 2,
             Entry::LostTime(a, t) => movement(a, t) + 3,
             Entry::MinimumGreen(a, t) => movement(a, t) + 4,
+            Entry::LaneFactor(a, t) => movement(a, t) + 5,
             Entry::SharedLane(a) => approach(a),
             Entry::Pedestrians(a) => approach(a) + 1,
             Entry::PushButton(a) => approach(a) + 2,
             Entry::WalkTime(a) => approach(a) + 3,
             Entry::FreeRight(a) => approach(a) + 4,
-            Entry::Cycle => 80,
+            Entry::Cycle => 92,
         }
     }
 
     /// The entry that stands at a place, if there is one.
     pub fn at(place: usize) -> Option<Entry> {
         match place {
-            0..=59 => {
-                let (a, t) = (Approach::ALL[place / 15], Turn::ALL[place / 5 % 3]);
-                let kinds: [fn(Approach, Turn) -> Entry; 5] = [
+            0..=71 => {
+                let (a, t) = (Approach::ALL[place / 18], Turn::ALL[place / 6 % 3]);
+                let kinds: [fn(Approach, Turn) -> Entry; 6] = [
                     Entry::Lanes,
                     Entry::Volume,
                     Entry::IdealFlow,
                     Entry::LostTime,
                     Entry::MinimumGreen,
+                    Entry::LaneFactor,
                 ];
-                Some(kinds[place % 5](a, t))
+                Some(kinds[place % 6](a, t))
             }
-            60..=79 => {
+            72..=91 => {
                 let kinds: [fn(Approach) -> Entry; 5] = [
                     Entry::SharedLane,
                     Entry::Pedestrians,
@@ -97,11 +103,53 @@ impl Entry {
                     Entry::WalkTime,
                     Entry::FreeRight,
                 ];
-                Some(kinds[place % 5](Approach::ALL[(place - 60) / 5]))
+                let (a, kind) = ((place - 72) / 5, (place - 72) % 5);
+                Some(kinds[kind](Approach::ALL[a]))
             }
-            80 => Some(Entry::Cycle),
+            92 => Some(Entry::Cycle),
             _ => None,
         }
+    }
+}
+
+/// How evenly a movement's lanes are used, where somebody counted each of them: 500 to 1,000 thousandths, so 971 is 0.971. Where
+/// nobody did, [`LaneFactor::TABLE`] leaves it to the table of the rules. It counts for any number of lanes, one included; that of
+/// the lefts also where they share a through lane.
+#[derive(Clone, Copy, Debug, Default, PartialEq, Eq, Hash)]
+pub struct LaneFactor(u32);
+
+impl LaneFactor {
+    /// The table's factor, not a measured one; as a number it is 0.
+    pub const TABLE: LaneFactor = LaneFactor(0);
+    /// How many parts make a factor of 1.
+    pub const UNIT: u32 = 1_000;
+
+    /// None for a number that is neither 0 nor 500 to 1,000.
+    pub const fn from_thousandths(thousandths: u32) -> Option<LaneFactor> {
+        match thousandths {
+            0 | 500..=LaneFactor::UNIT => Some(LaneFactor(thousandths)),
+            _ => None,
+        }
+    }
+
+    /// The entry's number: 0 for the table's.
+    pub const fn thousandths(self) -> u32 {
+        self.0
+    }
+
+    pub const fn is_measured(self) -> bool {
+        self.0 != 0
+    }
+}
+
+/// A measured factor with its three decimals, such as 0.971.
+impl fmt::Display for LaneFactor {
+    fn fmt(&self, f: &mut fmt::Formatter<'_>) -> fmt::Result {
+        if !self.is_measured() {
+            return write!(f, "the table's");
+        }
+        let (whole, parts) = (self.0 / LaneFactor::UNIT, self.0 % LaneFactor::UNIT);
+        write!(f, "{whole}.{parts:03}")
     }
 }
 
@@ -110,9 +158,9 @@ impl Entry {
 pub struct Entries([u32; Entries::COUNT]);
 
 impl Entries {
-    pub const COUNT: usize = 81;
+    pub const COUNT: usize = 93;
 
-    /// All entries 0; ideal flows and the cycle must be set before a fill accepts them.
+    /// All entries 0; ideal flows and the cycle must be set before a fill accepts them. Lane factors are the table's.
     pub fn new() -> Entries {
         Entries([0; Entries::COUNT])
     }
@@ -124,6 +172,20 @@ impl Entries {
     pub fn set(&mut self, entry: Entry, value: u32) -> &mut Entries {
         self.0[entry.place()] = value;
         self
+    }
+
+    /// The lane factor of a movement; none where its entry holds a number that is no lane factor.
+    pub fn lane_factor(&self, approach: Approach, turn: Turn) -> Option<LaneFactor> {
+        LaneFactor::from_thousandths(self.get(Entry::LaneFactor(approach, turn)))
+    }
+
+    pub fn set_lane_factor(
+        &mut self,
+        approach: Approach,
+        turn: Turn,
+        factor: LaneFactor,
+    ) -> &mut Entries {
+        self.set(Entry::LaneFactor(approach, turn), factor.thousandths())
     }
 
     /// The entries in the order of their places.

@@ -16,6 +16,6 @@ pub mod study;
 #[allow(unsafe_code)]
 mod sys;
 
-pub use entries::{Approach, Entries, Entry, Turn};
+pub use entries::{Approach, Entries, Entry, LaneFactor, Turn};
 pub use refusal::Refusal;
 pub use sheet::{Flow, Pair, Phasing, Sheet};

@@ -1,4 +1,4 @@
-//! Open studies: 180 places that several offices share, each of which works on its own sites alone.
+//! Open studies: 165 places that several offices share, each of which works on its own sites alone.
 //!
 //! Adds and amendments borrow a study for writing and reads for reading, so the compiler keeps what the
 //! library asks of threads: behind a [`RwLock`](std::sync::RwLock) a writer is alone, and reads run
@@ -42,7 +42,7 @@ pub struct OpenStudy {
 }
 
 impl OpenStudy {
-    pub const PLACES: usize = 180;
+    pub const PLACES: usize = 165;
     /// The numbers of all blocks.
     pub const NUMBERS: usize = OpenStudy::PLACES * Entries::COUNT;
 
@@ -54,7 +54,7 @@ impl OpenStudy {
         }
     }
 
-    /// A study of lists from elsewhere: 180 owners, 0 for a free place, and as many blocks of 81 entries.
+    /// A study of lists from elsewhere: 165 owners, 0 for a free place, and as many blocks of 93 entries.
     /// They may hold any numbers; only their lengths are judged here.
     pub fn from_parts(
         owners: impl Into<Vec<u32>>,

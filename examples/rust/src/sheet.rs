@@ -5,9 +5,9 @@ use std::fmt;
 
 const BLANK: u32 = u32::MAX;
 const LINES: usize = 28;
-const FIRST_LINE: usize = 81;
-const PAIRS: usize = 193;
-const LAST: usize = 201;
+const FIRST_LINE: usize = 93;
+const PAIRS: usize = 205;
+const LAST: usize = 213;
 
 /// Two approaches that face each other.
 #[derive(Clone, Copy, Debug, PartialEq, Eq, Hash)]
@@ -49,12 +49,12 @@ impl fmt::Display for Flow {
     }
 }
 
-/// The 209 cells of a junction. Only a fill makes one, so it always holds a rating.
+/// The 221 cells of a junction. Only a fill makes one, so it always holds a rating.
 #[derive(Clone, Debug, PartialEq, Eq)]
 pub struct Sheet([u32; Sheet::CELLS]);
 
 impl Sheet {
-    pub const CELLS: usize = 209;
+    pub const CELLS: usize = 221;
 
     /// Judges the entries and works out the whole sheet.
     pub fn fill(entries: &Entries) -> Result<Sheet, Refusal> {

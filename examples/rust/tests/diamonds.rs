@@ -107,9 +107,12 @@ fn storages_allow_plans() {
 #[test]
 fn refusals_have_names() {
     let (left, cycle) = (Turn::Left, Refusal::Range(Entry::Cycle));
+    let factor = Entry::LaneFactor(EB, left);
     for (side, entry, value, due) in [
         (Side::West, Entry::Cycle, 29, cycle),
         (Side::East, Entry::Cycle, 121, cycle),
+        (Side::West, factor, 1_001, Refusal::Range(factor)),
+        (Side::East, factor, 499, Refusal::Range(factor)),
         (Side::East, Entry::SharedLane(NB), 1, Refusal::Shared(NB)),
         (
             Side::East,

@@ -36,7 +36,7 @@ fn each_office_has_its_own() {
     assert_eq!(study.read(office(1), 0), Sheet::fill(&changed));
     assert_eq!(study.read(office(2), 1), Sheet::fill(&shared()));
     let before = study.clone();
-    let others = [(2, 0), (1, 1), (1, 2), (2, 180), (2, u32::MAX), (3, 0)];
+    let others = [(2, 0), (1, 1), (1, 2), (2, 165), (2, u32::MAX), (3, 0)];
     for (number, site) in others {
         let refusal = Refusal::Owner(site);
         assert_eq!(study.read(office(number), site), Err(refusal));
@@ -51,8 +51,10 @@ fn refusals_have_names() {
     let mut study = study();
     let before = study.clone();
     let (left, through) = (Turn::Left, Turn::Through);
+    let factor = Entry::LaneFactor(EB, Turn::Right);
     for (entry, value, due) in [
         (Entry::Cycle, 29, Refusal::Range(Entry::Cycle)),
+        (factor, 499, Refusal::Range(factor)),
         (Entry::SharedLane(EB), 1, Refusal::Shared(EB)),
         (Entry::Lanes(EB, left), 0, Refusal::NoLane(EB, left)),
     ] {
@@ -98,14 +100,14 @@ fn lists_from_elsewhere() {
     let mut study = OpenStudy::from_parts(owners, blocks).unwrap();
     // blocks that nobody judged are judged when they are read
     let bad = Refusal::Range(Entry::IdealFlow(EB, Turn::Left));
-    assert_eq!(study.read(office(9), 179), Err(bad));
+    assert_eq!(study.read(office(9), 164), Err(bad));
     assert_eq!(study.add(office(9), &plain()), Err(Refusal::Full));
     let (mut owners, blocks) = (study.parts().0.to_vec(), study.parts().1.to_vec());
-    owners[179] = 0;
+    owners[164] = 0;
     study = OpenStudy::from_parts(owners, blocks).unwrap();
-    assert_eq!(study.add(office(4), &plain()), Ok(179));
-    assert_eq!(study.read(office(4), 179), Sheet::fill(&plain()));
-    assert_eq!(study.parts().0[178..], [9, 4]);
+    assert_eq!(study.add(office(4), &plain()), Ok(164));
+    assert_eq!(study.read(office(4), 164), Sheet::fill(&plain()));
+    assert_eq!(study.parts().0[163..], [9, 4]);
 }
 
 /// Each office adds and reads in a thread of its own; what it reads is what it added and amended.

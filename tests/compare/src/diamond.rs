@@ -3,13 +3,13 @@
 use crate::rules::{
     self, adjusted_lines, letter, refused, Answer, ACCEPTED, BLANK, CYCLE, ENTRIES,
 };
-use crate::rules::{NOLANE, RANGE, SHARED, SIZE};
+use crate::rules::{approach_entry, movement_entry, NOLANE, RANGE, SHARED, SIZE};
 
 /// A record: the west junction's entries, the east's, four storages, the travel time.
-pub const RECORD: usize = 167;
-pub const EAST: usize = 81;
-pub const STORAGES: usize = 162;
-pub const TRAVEL_TIME: usize = 166;
+pub const RECORD: usize = 191;
+pub const EAST: usize = 93;
+pub const STORAGES: usize = 186;
+pub const TRAVEL_TIME: usize = 190;
 /// What comes of it, and where the plans begin in it.
 pub const CELLS: usize = 29;
 pub const PLANS: usize = 22;
@@ -31,10 +31,10 @@ const LEGS: [[usize; 3]; 2] = [[EB, WB, SB], [WB, EB, NB]];
 
 /// The volumes of the lefts that wait in the storages, by their places in a record.
 pub const STORED: [usize; 4] = [
-    15 * WB + 1,
-    EAST + 15 * EB + 1,
-    15 * SB + 1,
-    EAST + 15 * NB + 1,
+    movement_entry(WB, 0, 1),
+    EAST + movement_entry(EB, 0, 1),
+    movement_entry(SB, 0, 1),
+    EAST + movement_entry(NB, 0, 1),
 ];
 
 /// A junction's entries out of a record.
@@ -112,7 +112,7 @@ impl Side {
         let entries = junction(record, side);
         let [outer, inner, ramp] = LEGS[side].map(|a| {
             let [left, through, right] = adjusted_lines(entries, a);
-            let free = entries[60 + 5 * a + 4] == 1;
+            let free = entries[approach_entry(a, 4)] == 1;
             [left, through, if free { 0 } else { right }]
         });
         let entering = outer[1].max(outer[2]);

@@ -4,7 +4,8 @@
 pub mod diamond;
 pub mod open;
 
-use crate::rules::{self, decay, kind_of, CELLS, CYCLE, ENTRIES, LAST, LIMITS, PAIRS, SITES};
+use crate::rules::{self, approach_entry, decay, kind_of, movement_entry, place_today, BY_TABLE};
+use crate::rules::{CELLS, CYCLE, ENTRIES, FACTOR, LAST, LIMITS, OLD_ENTRIES, OLD_SITES, PAIRS, SITES};
 use std::sync::OnceLock;
 
 /// A small generator of well mixed numbers, the same run for the same seed.
@@ -84,9 +85,21 @@ fn lanes(rng: &mut Rng) -> [u32; 4] {
 /// The largest volume of a junction: many quiet ones, so that every letter comes up.
 const BUSY: [u32; 6] = [130, 250, 250, 500, 900, 9_999];
 
+/// A measured lane factor: the table's own values and the ends among them, and none.
+fn factor(rng: &mut Rng) -> u32 {
+    match rng.below(3) {
+        0 => BY_TABLE,
+        1 => rng.pick(&[500, 501, 885, 908, 952, 971, 999, 1_000]),
+        _ => rng.within(500, 1_000),
+    }
+}
+
 /// A value of the kind within its limits, often at one of its corners.
 pub fn usual(rng: &mut Rng, kind: usize) -> u32 {
     let (least, most) = LIMITS[kind];
+    if kind == FACTOR {
+        return factor(rng);
+    }
     match (kind, rng.below(5)) {
         (1, _) => {
             let most = rng.pick(&BUSY);
@@ -97,9 +110,9 @@ pub fn usual(rng: &mut Rng, kind: usize) -> u32 {
         (0, _) => rng.within(0, 3),
         (2, _) => rng.pick(&[1_900, 1_900, 1_800, 2_000]),
         (3, _) | (4, _) => rng.pick(&[4_000, 4_000, 0, 3_999, 10_000]),
-        (6, _) => rng.pick(&[0, 0, 1, 7, 59, 60, 200]),
-        (8, _) => rng.pick(&[16_000, 16_000, 40_000, 0, 25_264]),
-        (10, _) => rng.pick(&[120, 120, 90, 60, 100]),
+        (7, _) => rng.pick(&[0, 0, 1, 7, 59, 60, 200]),
+        (9, _) => rng.pick(&[16_000, 16_000, 40_000, 0, 25_264]),
+        (11, _) => rng.pick(&[120, 120, 90, 60, 100]),
         _ => rng.within(least, most),
     }
 }
@@ -150,7 +163,7 @@ fn approach(rng: &mut Rng, e: &mut Entries, a: usize, busy: u32) {
         v = [0; 3];
     }
     for turn in 0..3 {
-        let at = 15 * a + 5 * turn;
+        let at = movement_entry(a, turn, 0);
         e[at] = lanes[turn];
         e[at + 1] = v[turn];
         e[at + 2] = usual(rng, 2);
@@ -162,31 +175,32 @@ fn approach(rng: &mut Rng, e: &mut Entries, a: usize, busy: u32) {
             };
         }
     }
-    for kind in 5..10 {
-        e[60 + 5 * a + kind - 5] = usual(rng, kind);
+    for j in 0..5 {
+        e[approach_entry(a, j)] = usual(rng, 6 + j);
     }
-    e[60 + 5 * a] = lanes[3];
+    e[approach_entry(a, 0)] = lanes[3];
     if rng.once_in(2) {
-        e[60 + 5 * a + 1] = 0;
+        e[approach_entry(a, 1)] = 0;
     }
     if !rng.once_in(4) {
-        e[60 + 5 * a + 4] = 0;
+        e[approach_entry(a, 4)] = 0;
     }
 }
 
 /// People cross and nobody goes straight on: with lefts or without, with through lanes or without, now and then in no time at all.
 fn closed_leg(rng: &mut Rng, e: &mut Entries, a: usize) {
-    let (at, own) = (15 * a, 60 + 5 * a);
+    let own = approach_entry(a, 0);
     let lefts = rng.once_in(3);
     for (turn, lanes) in [u32::from(lefts), rng.within(0, 2), 0].into_iter().enumerate() {
-        e[at + 5 * turn] = lanes;
-        e[at + 5 * turn + 1] = 0;
+        let at = movement_entry(a, turn, 0);
+        e[at] = lanes;
+        e[at + 1] = 0;
         if rng.once_in(3) {
-            e[at + 5 * turn + 3..at + 5 * turn + 5].fill(0);
+            e[at + 3..at + 5].fill(0);
         }
     }
     if lefts {
-        e[at + 1] = rng.within(0, 200);
+        e[movement_entry(a, 0, 1)] = rng.within(0, 200);
     }
     e[own] = 0;
     e[own + 1] = rng.pick(&[0, 1, 7, 60, 300, 2_000]);
@@ -196,10 +210,10 @@ fn closed_leg(rng: &mut Rng, e: &mut Entries, a: usize) {
 /// Lanes of left, through and right with the shared flag, and volumes.
 fn put_lanes(e: &mut Entries, a: usize, lanes: [u32; 4], volumes: [u32; 3]) {
     for turn in 0..3 {
-        e[15 * a + 5 * turn] = lanes[turn];
-        e[15 * a + 5 * turn + 1] = volumes[turn];
+        e[movement_entry(a, turn, 0)] = lanes[turn];
+        e[movement_entry(a, turn, 1)] = volumes[turn];
     }
-    e[60 + 5 * a] = lanes[3];
+    e[approach_entry(a, 0)] = lanes[3];
 }
 
 /// Several shared lanes against a quiet approach: the flow behind their lefts is cut once more, and option B goes by it.
@@ -230,13 +244,14 @@ fn bus_gate(rng: &mut Rng, e: &mut Entries, a: usize) {
         _ => {}
     }
     for turn in 0..3 {
-        e[15 * a + 5 * turn + 2] = rng.pick(&[1_000, 1_000, 1_001, 1_003, 1_007, 1_009]);
+        e[movement_entry(a, turn, 2)] = rng.pick(&[1_000, 1_000, 1_001, 1_003, 1_007, 1_009]);
     }
 }
 
 fn copy_approach(e: &mut Entries, from: usize, to: usize) {
-    e.copy_within(15 * from..15 * from + 15, 15 * to);
-    e.copy_within(60 + 5 * from..65 + 5 * from, 60 + 5 * to);
+    let (movements, own) = (movement_entry(from, 0, 0), approach_entry(from, 0));
+    e.copy_within(movements..movement_entry(from + 1, 0, 0), movement_entry(to, 0, 0));
+    e.copy_within(own..own + 5, approach_entry(to, 0));
 }
 
 /// The decay number with its last two terms left out, a slip that hardly ever shows.
@@ -278,21 +293,49 @@ fn to_letter_end(rng: &mut Rng, e: &mut Entries) {
     let end = rng.pick(&[550, 640, 730, 820, 910, 1_000, 1_090]) * e[CYCLE];
     let wanted = i64::from(end) + i64::from(rng.within(0, 2)) - 1;
     let change = wanted - i64::from(sheet[LAST + 5]);
-    let at = 15 * rng.below(4) + 5 * rng.below(3) + 3;
+    let at = movement_entry(rng.below(4), rng.below(3), 3);
     let lost = i64::from(e[at]) + change;
     if (0..=20_000).contains(&lost) {
         e[at] = lost as u32;
     }
 }
 
-/// An acceptable junction.
+/// Lane factors as they were measured: of all movements, of some, of one approach, or of lefts alone, also of those without lanes.
+fn measure(rng: &mut Rng, e: &mut Entries) {
+    let (way, a) = (rng.below(5), rng.below(4));
+    for m in 0..12 {
+        let counted = match way {
+            0 => true,
+            1 => m / 3 == a,
+            2 => m % 3 == 0,
+            _ => rng.once_in(2),
+        };
+        if counted {
+            e[movement_entry(0, m, FACTOR)] = factor(rng);
+        }
+    }
+}
+
+/// An acceptable junction, with lane factors as they were measured half the time.
 pub fn acceptable(rng: &mut Rng) -> Entries {
-    let mut e = [0; ENTRIES];
+    let mut e = by_table(rng);
+    if rng.once_in(2) {
+        measure(rng, &mut e);
+        if rng.once_in(3) {
+            to_letter_end(rng, &mut e);
+        }
+    }
+    e
+}
+
+/// An acceptable junction with the table's lane factors.
+pub fn by_table(rng: &mut Rng) -> Entries {
+    let mut e = [BY_TABLE; ENTRIES];
     let busy = rng.pick(&BUSY);
     for a in 0..4 {
         approach(rng, &mut e, a, busy);
     }
-    e[CYCLE] = usual(rng, 10);
+    e[CYCLE] = usual(rng, 11);
     if rng.once_in(6) {
         let a = rng.below(4);
         closed_leg(rng, &mut e, a);
@@ -309,7 +352,7 @@ pub fn acceptable(rng: &mut Rng) -> Entries {
     }
     if rng.once_in(10) {
         let (walkers, cycle) = rng.pick(walking_edges());
-        e[61 + 5 * rng.below(4)] = walkers;
+        e[approach_entry(rng.below(4), 1)] = walkers;
         e[CYCLE] = cycle;
     }
     if rng.once_in(3) {
@@ -321,21 +364,29 @@ pub fn acceptable(rng: &mut Rng) -> Entries {
 /// An entry at, past or far past a limit of its kind.
 fn spoil_range(rng: &mut Rng, e: &mut Entries) {
     let i = rng.below(ENTRIES);
-    let (least, most) = LIMITS[kind_of(i)];
     e[i] = match rng.below(3) {
         0 => any_number(rng),
-        _ => rng.pick(&[least.wrapping_sub(1), least, most, most + 1]),
+        _ => at_limit(rng, kind_of(i)),
     };
+}
+
+/// A value at a limit of the kind or just past it; of lane factors also the least that is no 0.
+fn at_limit(rng: &mut Rng, kind: usize) -> u32 {
+    let (least, most) = LIMITS[kind];
+    match kind == FACTOR && rng.once_in(3) {
+        true => rng.pick(&[0, 1, 2, 250]),
+        false => rng.pick(&[least.wrapping_sub(1), least, most, most + 1]),
+    }
 }
 
 /// Lanes, a volume or the shared flag changed without a look at the others.
 fn spoil_lanes(rng: &mut Rng, e: &mut Entries) {
     let (a, turn) = (rng.below(4), rng.below(3));
     match rng.below(4) {
-        0 => e[60 + 5 * a] ^= 1,
-        1 => e[15 * a + 5 * turn] = rng.within(0, 1),
-        2 => e[15 * a + 5] = 0,
-        _ => e[15 * a + 5 * turn + 1] = rng.within(0, 2),
+        0 => e[approach_entry(a, 0)] ^= 1,
+        1 => e[movement_entry(a, turn, 0)] = rng.within(0, 1),
+        2 => e[movement_entry(a, 1, 0)] = 0,
+        _ => e[movement_entry(a, turn, 1)] = rng.within(0, 2),
     }
 }
 
@@ -368,7 +419,7 @@ pub fn any_numbers(rng: &mut Rng, length: usize) -> Vec<u32> {
 /// A length around those that matter.
 pub fn any_length(rng: &mut Rng) -> usize {
     let corners = [
-        0, 1, 80, 81, 82, 161, 162, 163, 193, 201, 208, 209, 210, 243, 418,
+        0, 1, 80, 81, 82, 92, 93, 94, 185, 186, 187, 205, 209, 213, 220, 221, 222, 279, 442,
     ];
     match rng.once_in(4) {
         true => rng.below(500),
@@ -406,20 +457,19 @@ pub fn filled(rng: &mut Rng) -> Sheet {
 /// An amendment: mostly a fair value of any entry, now and then a bad value or place.
 pub fn amendment(rng: &mut Rng) -> (u32, u32) {
     let entry = match rng.below(8) {
-        0 => rng.within(60, 80),
+        0 => rng.within(approach_entry(0, 0) as u32, CYCLE as u32),
         1 => CYCLE as u32,
         _ => rng.below(ENTRIES) as u32,
     };
     let kind = kind_of(entry as usize);
-    let (least, most) = LIMITS[kind];
     let value = match rng.below(12) {
-        0 => rng.pick(&[least.wrapping_sub(1), least, most, most + 1]),
+        0 => at_limit(rng, kind),
         1 => any_number(rng),
         _ => usual(rng, kind),
     };
     match rng.once_in(25) {
         true => (
-            rng.pick(&[81, 82, 161, 208, 209, u32::MAX, u32::MAX - 80]),
+            rng.pick(&[93, 94, 185, 220, 221, u32::MAX, u32::MAX - 92]),
             value,
         ),
         false => (entry, value),
@@ -486,27 +536,33 @@ pub fn any_count(rng: &mut Rng) -> usize {
     }
 }
 
-/// The entries of so many sites, bad ones among them.
-pub fn sites(rng: &mut Rng, count: usize) -> Vec<u32> {
-    let mut entries = Vec::with_capacity(count * ENTRIES);
-    for _ in 0..count {
-        let site = match rng.below(6) {
-            0 => nearly(rng).to_vec(),
-            1 => any_numbers(rng, ENTRIES),
-            _ => acceptable(rng).to_vec(),
-        };
-        entries.extend(site);
+/// The entries of a site, bad ones among them.
+fn site(rng: &mut Rng) -> Entries {
+    match rng.below(6) {
+        0 => nearly(rng),
+        1 => std::array::from_fn(|_| any_number(rng)),
+        _ => acceptable(rng),
     }
-    entries
+}
+
+/// The entries of so many sites.
+pub fn sites(rng: &mut Rng, count: usize) -> Vec<u32> {
+    (0..count).flat_map(|_| site(rng)).collect()
+}
+
+/// The same without their lane factors, as sites stood before those were measured.
+fn old_sites(rng: &mut Rng, count: usize) -> Vec<u32> {
+    let narrowed = |e: Entries| std::array::from_fn::<u32, OLD_ENTRIES, _>(|i| e[place_today(i)]);
+    (0..count).flat_map(|_| narrowed(site(rng))).collect()
 }
 
 /// A file laid out by hand, so that it may have more sites than are allowed.
-pub fn laid_out(entries: &[u32]) -> Vec<u8> {
-    let k = entries.len() / ENTRIES;
-    let mut file = b"ICUS".to_vec();
+fn laid_out_as(opening: &[u8; 4], size: usize, entries: &[u32]) -> Vec<u8> {
+    let k = entries.len() / size;
+    let mut file = opening.to_vec();
     file.extend((k as u32).to_le_bytes());
     for j in 0..k {
-        file.extend(((8 + 4 * k + 324 * j) as u32).to_le_bytes());
+        file.extend(((8 + 4 * k + 4 * size * j) as u32).to_le_bytes());
     }
     entries
         .iter()
@@ -514,10 +570,28 @@ pub fn laid_out(entries: &[u32]) -> Vec<u8> {
     file
 }
 
+/// A file of today, of blocks of 93 numbers.
+pub fn laid_out(entries: &[u32]) -> Vec<u8> {
+    laid_out_as(b"ICUT", ENTRIES, entries)
+}
+
+/// A file of before, of blocks of 81.
+pub fn laid_out_before(entries: &[u32]) -> Vec<u8> {
+    laid_out_as(b"ICUS", OLD_ENTRIES, entries)
+}
+
 /// Puts a number where a field of the file stands, if the file reaches so far.
 fn put(file: &mut [u8], at: usize, number: u32) {
     if let Some(field) = file.get_mut(at..at + 4) {
         field.copy_from_slice(&number.to_le_bytes());
+    }
+}
+
+/// How many bytes a block has in a file with this opening.
+fn block_bytes(file: &[u8]) -> usize {
+    match file.get(..4) {
+        Some(b"ICUS") => 4 * OLD_ENTRIES,
+        _ => 4 * ENTRIES,
     }
 }
 
@@ -529,7 +603,7 @@ fn cut_length(rng: &mut Rng, file: &[u8]) -> usize {
         4,
         8,
         8 + 4 * k,
-        8 + 4 * k + 324,
+        8 + 4 * k + block_bytes(file),
         file.len(),
         8 + 4 * rng.below(k + 1),
     ];
@@ -541,6 +615,17 @@ fn cut_length(rng: &mut Rng, file: &[u8]) -> usize {
     }
 }
 
+/// The opening of the other kind, or one that differs from a kind's by a bit.
+fn other_opening(rng: &mut Rng, file: &[u8]) -> u32 {
+    let (before, today) = (u32::from_le_bytes(*b"ICUS"), u32::from_le_bytes(*b"ICUT"));
+    let other = match file.get(..4) {
+        Some(b"ICUS") => today,
+        _ => before,
+    };
+    let bit = 1 << rng.below(32);
+    rng.pick(&[other, before ^ bit, today ^ bit])
+}
+
 /// One kind of damage to a file.
 fn damage(rng: &mut Rng, file: &mut Vec<u8>) {
     let k = rules::study_count(file) as usize;
@@ -548,14 +633,18 @@ fn damage(rng: &mut Rng, file: &mut Vec<u8>) {
     match rng.below(8) {
         0 => file.truncate(cut_length(rng, file)),
         1 => file.extend((0..=rng.below(400)).map(|i| i as u8)),
-        2 => put(file, 0, 0x5355_4349 ^ (1 << rng.below(32))),
+        2 => {
+            let opening = other_opening(rng, file);
+            put(file, 0, opening);
+        }
         3 => {
-            let around = [k as u32 + 1, (k as u32).wrapping_sub(1), 180, 181, u32::MAX];
-            put(file, 4, rng.pick(&around));
+            let (more, less) = (k as u32 + 1, (k as u32).wrapping_sub(1));
+            let counts = [more, less, 165, 166, 180, 181, u32::MAX];
+            put(file, 4, rng.pick(&counts));
         }
         4 | 5 => {
             let j = rng.below(k.max(1));
-            let right = (8 + 4 * k + 324 * j) as u32;
+            let right = (8 + 4 * k + block_bytes(file) * j) as u32;
             let wrong = [
                 right ^ (1 << rng.below(32)),
                 right + 4,
@@ -570,23 +659,48 @@ fn damage(rng: &mut Rng, file: &mut Vec<u8>) {
     }
 }
 
+/// A file of either kind, well laid out.
+fn good_file(rng: &mut Rng) -> Vec<u8> {
+    let count = any_count(rng);
+    match rng.below(5) {
+        0 | 1 => {
+            // From 166 to 180 sites only a file of before may have.
+            let more = if count >= SITES - 1 { rng.below(16) } else { 0 };
+            laid_out_before(&old_sites(rng, count + more))
+        }
+        _ => laid_out(&sites(rng, count)),
+    }
+}
+
+/// Either kind's opening and some small bytes.
+fn opening_and_bytes(rng: &mut Rng) -> Vec<u8> {
+    let mut file = rng.pick(&[b"ICUS", b"ICUT"]).to_vec();
+    file.extend((0..rng.below(40)).map(|_| rng.number() as u8 & 1));
+    file
+}
+
+/// About as many sites as a kind may have, now and then blocks of the other kind's length.
+fn about_full(rng: &mut Rng) -> Vec<u8> {
+    match rng.below(6) {
+        0 => laid_out_as(b"ICUS", ENTRIES, &[7; 2 * ENTRIES]),
+        1 => laid_out_as(b"ICUT", OLD_ENTRIES, &[7; 2 * OLD_ENTRIES]),
+        2 | 3 => laid_out_before(&vec![7; OLD_ENTRIES * (OLD_SITES + rng.below(4))]),
+        _ => laid_out(&vec![7; ENTRIES * (SITES + rng.below(4))]),
+    }
+}
+
 /// A study file: a good one, a damaged one, one with too many sites, or any bytes at all.
 pub fn any_file(rng: &mut Rng) -> Vec<u8> {
-    let count = any_count(rng);
     match rng.below(20) {
         0 => {
             let length = rng.below(700);
             (0..length).map(|_| rng.number() as u8).collect()
         }
-        1 => {
-            let mut file = b"ICUS".to_vec();
-            file.extend((0..rng.below(40)).map(|_| rng.number() as u8 & 1));
-            file
-        }
-        2 => laid_out(&vec![7; ENTRIES * (SITES + rng.below(4))]),
-        3..=10 => laid_out(&sites(rng, count)),
+        1 => opening_and_bytes(rng),
+        2 => about_full(rng),
+        3..=10 => good_file(rng),
         _ => {
-            let mut file = laid_out(&sites(rng, count));
+            let mut file = good_file(rng);
             for _ in 0..=rng.below(3) {
                 damage(rng, &mut file);
             }
@@ -601,12 +715,16 @@ pub fn any_site(rng: &mut Rng, file: &[u8]) -> u32 {
     let beyond = [
         k,
         k + 1,
+        164,
+        165,
+        166,
         179,
         180,
         181,
         1 << 30,
         u32::MAX,
         u32::MAX / 324 + 1,
+        u32::MAX / 372 + 1,
     ];
     match k > 0 && !rng.once_in(4) {
         true => rng.within(0, k - 1),

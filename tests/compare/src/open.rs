@@ -1,9 +1,9 @@
-//! Open studies in plain Rust: 180 places with an owner and a block of entries each, shared by offices
+//! Open studies in plain Rust: 165 places with an owner and a block of entries each, shared by offices
 //! of which each sees its own sites alone.
 
 use crate::rules::{self, refused, Answer, ACCEPTED, CELLS, ENTRIES, ENTRY, SIZE};
 
-pub const PLACES: usize = 180;
+pub const PLACES: usize = 165;
 pub const BLOCKS: usize = PLACES * ENTRIES;
 /// The owner of a place that nobody has.
 pub const FREE: u32 = 0;

@@ -3,6 +3,7 @@
 use crate::lent::{Canary, Lent};
 use compare::generate::picks;
 use compare::rules::{self, Answer, ACCEPTED, BLANK, ENTRIES, FIRST_LINE, LAST, LINES, PAIRS};
+use compare::rules::{approach_entry, movement_entry, BY_TABLE, CYCLE, FACTOR, SITES};
 use compare::rules::{NOLANE, RANGE, SHARED};
 use compare::{diamond, open};
 use std::collections::BTreeMap;
@@ -22,8 +23,29 @@ pub struct Tally {
     picked: [u64; 3],
     blanks: [u64; 2],
     crossed: [u64; 2],
+    measured: Measured,
+    studies: Studies,
     diamonds: Diamonds,
     opens: Opens,
+}
+
+/// Lane factors that were measured, by the lanes that they were measured of; shared lanes whose lefts' factor decides.
+#[derive(Default)]
+struct Measured {
+    one_lane: u64,
+    more_lanes: u64,
+    shared_left: u64,
+    no_lane: u64,
+    decides: u64,
+}
+
+/// Study files of both kinds, today's first: good ones, and refused ones with the kind's opening.
+#[derive(Default)]
+struct Studies {
+    good: [u64; 2],
+    refused: [u64; 2],
+    no_opening: u64,
+    over: u64,
 }
 
 /// The turns that interchanges took.
@@ -68,6 +90,47 @@ impl Tally {
             self.crossed[0] += u64::from(crossed && line(1) > 0);
             self.crossed[1] += u64::from(crossed && line(1) == 0);
         }
+        (0..12).for_each(|m| self.factor(sheet, m / 3, m % 3));
+    }
+
+    /// Counts a measured lane factor of a filled sheet, by the lanes that it is for.
+    fn factor(&mut self, sheet: &[u32], a: usize, turn: usize) {
+        let entry = |kind: usize| sheet[movement_entry(a, turn, kind)];
+        let line = |k: usize| sheet[FIRST_LINE + LINES * a + k - 1];
+        if entry(FACTOR) == BY_TABLE {
+            return;
+        }
+        let shared = turn == 0 && sheet[approach_entry(a, 0)] == 1;
+        let counts = &mut self.measured;
+        match (entry(0), shared) {
+            (0, true) => counts.shared_left += 1,
+            (0, false) => counts.no_lane += 1,
+            (1, _) => counts.one_lane += 1,
+            _ => counts.more_lanes += 1,
+        }
+        if shared {
+            let passing = 10_000 * u64::from(entry(1)) * u64::from(sheet[CYCLE]);
+            let alone = passing.div_ceil(u64::from(line(9)));
+            counts.decides += u64::from(line(27) > line(14) && alone == u64::from(line(27)));
+        }
+    }
+
+    /// Counts a study file by its opening, and whether it is good.
+    #[cfg_attr(not(feature = "study"), allow(dead_code))]
+    pub fn study(&mut self, file: &[u8]) {
+        let kind = match file.get(..4) {
+            Some(b"ICUT") => 0,
+            Some(b"ICUS") => 1,
+            _ => {
+                self.studies.no_opening += 1;
+                return;
+            }
+        };
+        match rules::study_check(file) {
+            ACCEPTED => self.studies.good[kind] += 1,
+            _ => self.studies.refused[kind] += 1,
+        }
+        self.studies.over += u64::from(rules::study_count(file) as usize > SITES);
     }
 
     /// Counts the turns that an accepted record took.
@@ -149,6 +212,22 @@ impl Tally {
         );
     }
 
+    fn print_measured(&self) {
+        let counts = &self.measured;
+        println!(
+            "lane factors measured of one lane {}, of more {}, of a shared lane's lefts {} (deciding line 27: {}), of no lane {}",
+            counts.one_lane, counts.more_lanes, counts.shared_left, counts.decides, counts.no_lane
+        );
+    }
+
+    fn print_studies(&self) {
+        let counts = &self.studies;
+        println!(
+            "study files of today and of before, good {:?}, refused {:?}; with neither opening: {}; of before with more than {SITES} sites: {}",
+            counts.good, counts.refused, counts.no_opening, counts.over
+        );
+    }
+
     fn print_diamonds(&self) {
         let counts = &self.diamonds;
         println!("diamonds' letters A to H: {:?}", counts.letters);
@@ -183,6 +262,10 @@ impl Tally {
         println!("picked protected, permitted, split: {:?}", self.picked);
         println!("BLANK in lines 23, 24: {:?}", self.blanks);
         println!("crossed with lefts alone, with nobody driving: {:?}", self.crossed);
+        self.print_measured();
+        if self.studies.good.iter().sum::<u64>() > 0 {
+            self.print_studies();
+        }
         if self.diamonds.picked.iter().sum::<u64>() > 0 {
             self.print_diamonds();
         }

@@ -6,17 +6,23 @@
 //! so is what a function with a UNIT calls once, which the compiler would otherwise keep apart, a tenth of a fill's time.
 
 pub const BLANK: u32 = u32::MAX;
-pub const ENTRIES: usize = 81;
-pub const CELLS: usize = 209;
-pub const CYCLE: usize = 80;
+pub const ENTRIES: usize = 93;
+pub const CELLS: usize = 221;
+/// The entries of a movement, and where those of the approaches begin.
+pub const MOVEMENT: usize = 6;
+pub const OWN: usize = 72;
+pub const CYCLE: usize = 92;
 pub const LINES: usize = 28;
-pub const SITES: usize = 180;
+/// The most sites of a study file, and of one from before lane factors were measured; the entries of a site then.
+pub const SITES: usize = 165;
+pub const OLD_SITES: usize = 180;
+pub const OLD_ENTRIES: usize = 81;
 /// Flows are in tenths of a vehicle per hour.
 pub const FLOW_UNIT: u64 = 10;
 /// Where the lines, the pair cells and the last eight begin in a sheet.
-pub const FIRST_LINE: usize = 81;
-pub const PAIRS: usize = 193;
-pub const LAST: usize = 201;
+pub const FIRST_LINE: usize = 93;
+pub const PAIRS: usize = 205;
+pub const LAST: usize = 213;
 
 #[derive(Clone, Copy, Debug, PartialEq, Eq)]
 pub struct Answer {
@@ -38,14 +44,20 @@ pub(crate) const fn refused(number: u32, place: u32) -> Answer {
 
 // ---------------------------------------------------------------- entries
 
-/// Lowest and highest value of the kinds in the order of their entries: five of a movement,
+pub const KINDS: usize = 12;
+/// The kind of the measured lane factors, which may also be BY_TABLE.
+pub const FACTOR: usize = 5;
+pub const BY_TABLE: u32 = 0;
+
+/// Lowest and highest value of the kinds in the order of their entries: six of a movement,
 /// five of an approach, the cycle.
-pub const LIMITS: [(u32, u32); 11] = [
+pub const LIMITS: [(u32, u32); KINDS] = [
     (0, 6),
     (0, 9_999),
     (1_000, 2_400),
     (0, 20_000),
     (0, 60_000),
+    (500, 1_000),
     (0, 1),
     (0, 2_000),
     (0, 1),
@@ -54,32 +66,44 @@ pub const LIMITS: [(u32, u32); 11] = [
     (30, 240),
 ];
 
-/// Which of the eleven kinds stands at an entry's place.
+/// Which of the twelve kinds stands at an entry's place.
 pub const fn kind_of(entry: usize) -> usize {
     match entry {
-        0..=59 => entry % 5,
-        60..=79 => 5 + entry % 5,
-        _ => 10,
+        0..OWN => entry % MOVEMENT,
+        OWN..CYCLE => MOVEMENT + (entry - OWN) % 5,
+        _ => KINDS - 1,
     }
 }
 
-const fn limit_tables() -> ([u32; ENTRIES], [u32; ENTRIES]) {
-    let (mut low, mut span) = ([0; ENTRIES], [0; ENTRIES]);
+/// Where the entry of a movement, an approach stands.
+pub const fn movement_entry(a: usize, turn: usize, kind: usize) -> usize {
+    MOVEMENT * (3 * a + turn) + kind
+}
+
+pub const fn approach_entry(a: usize, j: usize) -> usize {
+    OWN + 5 * a + j
+}
+
+/// Of each entry the lowest value, how far the highest is from it, and a value besides: a lane factor's 0, else the lowest again.
+const fn limit_tables() -> [[u32; ENTRIES]; 3] {
+    let mut tables = [[0; ENTRIES]; 3];
     let mut i = 0;
     while i < ENTRIES {
         let (least, most) = LIMITS[kind_of(i)];
-        low[i] = least;
-        span[i] = most - least;
+        tables[0][i] = least;
+        tables[1][i] = most - least;
+        tables[2][i] = if kind_of(i) == FACTOR { BY_TABLE } else { least };
         i += 1;
     }
-    (low, span)
+    tables
 }
 
-static LOW: [u32; ENTRIES] = limit_tables().0;
-static SPAN: [u32; ENTRIES] = limit_tables().1;
+static LOW: [u32; ENTRIES] = limit_tables()[0];
+static SPAN: [u32; ENTRIES] = limit_tables()[1];
+static BESIDES: [u32; ENTRIES] = limit_tables()[2];
 
 fn out_of_range(entries: &[u32; ENTRIES], i: usize) -> bool {
-    entries[i].wrapping_sub(LOW[i]) > SPAN[i]
+    (entries[i].wrapping_sub(LOW[i]) > SPAN[i]) & (entries[i] != BESIDES[i])
 }
 
 /// SIZE, RANGE, SHARED, NOLANE in this order, each at its lowest place.
@@ -93,7 +117,8 @@ pub fn judge(entries: &[u32]) -> Answer {
         return refused(RANGE, place.unwrap_or(0) as u32);
     }
     for a in 0..4 {
-        if entries[60 + 5 * a] == 1 && (entries[15 * a] > 0 || entries[15 * a + 5] == 0) {
+        let lanes = |turn: usize| entries[movement_entry(a, turn, 0)];
+        if entries[approach_entry(a, 0)] == 1 && (lanes(0) > 0 || lanes(1) == 0) {
             return refused(SHARED, a as u32);
         }
     }
@@ -107,9 +132,9 @@ pub fn judge(entries: &[u32]) -> Answer {
 
 /// The first turn of an approach that has volume and no lane to use.
 fn laneless(entries: &[u32; ENTRIES], a: usize) -> Option<u32> {
-    let lanes = |turn: usize| entries[15 * a + 5 * turn];
-    let volume = |turn: usize| entries[15 * a + 5 * turn + 1];
-    if volume(0) > 0 && lanes(0) == 0 && entries[60 + 5 * a] == 0 {
+    let lanes = |turn: usize| entries[movement_entry(a, turn, 0)];
+    let volume = |turn: usize| entries[movement_entry(a, turn, 1)];
+    if volume(0) > 0 && lanes(0) == 0 && entries[approach_entry(a, 0)] == 0 {
         return Some(0);
     }
     if volume(1) > 0 && lanes(1) == 0 {
@@ -166,6 +191,7 @@ struct Movement {
     ideal: u64,
     lost: u64,
     least: u64,
+    measured: u64,
 }
 
 /// The entries of one approach.
@@ -182,14 +208,24 @@ struct Approach {
 }
 
 impl Movement {
-    fn read(e: &[u32; ENTRIES], m: usize) -> Movement {
-        let at = |j: usize| u64::from(e[5 * m + j]);
+    fn read(e: &[u32; ENTRIES], a: usize, turn: usize) -> Movement {
+        let at = |kind: usize| u64::from(e[movement_entry(a, turn, kind)]);
         Movement {
             lanes: at(0),
             volume: at(1),
             ideal: at(2),
             lost: at(3),
             least: at(4),
+            measured: at(FACTOR),
+        }
+    }
+
+    /// The lane factor of so many lanes, in thousandths: the measured one, or the table's, whose last goes on.
+    #[inline(always)]
+    fn factor(&self, lanes: u64, table: &[u64; 3]) -> u64 {
+        match self.measured {
+            0 => table[lanes.min(3) as usize - 1],
+            measured => measured,
         }
     }
 }
@@ -197,11 +233,11 @@ impl Movement {
 impl Approach {
     #[inline(always)]
     fn read(e: &[u32; ENTRIES], a: usize) -> Approach {
-        let own = |j: usize| e[60 + 5 * a + j];
+        let own = |j: usize| e[approach_entry(a, j)];
         Approach {
-            left: Movement::read(e, 3 * a),
-            through: Movement::read(e, 3 * a + 1),
-            right: Movement::read(e, 3 * a + 2),
+            left: Movement::read(e, a, 0),
+            through: Movement::read(e, a, 1),
+            right: Movement::read(e, a, 2),
             shared: own(0) == 1,
             walkers: u64::from(own(1)),
             button: own(2) == 1,
@@ -288,12 +324,12 @@ const LEFT_FACTORS: [u64; 3] = [1_000, 971, 971];
 const THROUGH_FACTORS: [u64; 3] = [1_000, 952, 908];
 const RIGHT_FACTORS: [u64; 3] = [1_000, 885, 885];
 
-/// i·n·lane factor, in thousandths; more lanes than the table lists take its last factor.
-fn lanes_flow(x: &Movement, factors: &[u64; 3]) -> u64 {
+/// i·n·lane factor, in thousandths; nothing without lanes, whatever was measured.
+fn lanes_flow(x: &Movement, table: &[u64; 3]) -> u64 {
     if x.lanes == 0 {
         return 0;
     }
-    x.ideal * x.lanes * factors[x.lanes.min(3) as usize - 1]
+    x.ideal * x.lanes * x.factor(x.lanes, table)
 }
 
 /// Lanes and a factor give 10⁷ for each vehicle per hour: fewer for each unit of a flow.
@@ -318,8 +354,9 @@ fn flows<const UNIT: u64>(x: &Approach, v: &Volumes) -> Flows {
         through: through * turning / (10_000_000 / UNIT),
         right: lanes_flow(&x.right, &RIGHT_FACTORS) * 8_500 / (10_000_000 / UNIT),
         straight: through * going / (10_000_000 / UNIT),
+        // A shared lane's lefts stand in one left lane, with the left movement's factor though it has no lane.
         alone: if x.shared {
-            x.left.ideal * 9_500 / (10_000 / UNIT)
+            x.left.ideal * x.left.factor(1, &LEFT_FACTORS) * 9_500 / (10_000_000 / UNIT)
         } else {
             left
         },
@@ -674,7 +711,7 @@ fn work_out<const UNIT: u64>(entries: &[u32; ENTRIES], sheet: &mut [u32; CELLS])
     sheet[LAST..].copy_from_slice(&last);
 }
 
-/// Judges the entries and writes the 209 cells, flows in the unit asked for; nothing is written on a refusal.
+/// Judges the entries and writes the 221 cells, flows in the unit asked for; nothing is written on a refusal.
 #[inline(always)]
 pub fn fill_in<const UNIT: u64>(entries: &[u32], sheet: &mut [u32]) -> Answer {
     let (Ok(entries), Ok(sheet)) = (entries.try_into(), sheet.try_into()) else {
@@ -703,19 +740,20 @@ const ADJUSTED: u32 = lines(16, 18) | lines(26, 26) | lines(28, 28);
 const WALKERS: u32 = lines(10, 12) | lines(14, 15) | lines(17, 18) | lines(23, 28);
 const WALK_TIME: u32 = lines(17, 17) | lines(26, 26) | lines(28, 28);
 /// Own lines reached by an amendment, by the entry's kind, the cycle apart.
-const REACHED: [u32; 10] = [
+const REACHED: [u32; KINDS - 1] = [
     ALL,
     ALL,
     ALL,
     ADJUSTED,
     ADJUSTED,
+    ALL,
     ALL,
     WALKERS,
     WALK_TIME | lines(12, 12),
     WALK_TIME,
     0,
 ];
-const FREE_RIGHT: usize = 9;
+const FREE_RIGHT: usize = 10;
 
 fn copy_lines(sheet: &mut [u32; CELLS], fresh: &[u32; CELLS], a: usize, set: u32) {
     let at = FIRST_LINE + LINES * a;
@@ -737,10 +775,10 @@ fn copy_reached(sheet: &mut [u32; CELLS], fresh: &[u32; CELLS], entry: usize) {
         return;
     }
     let kind = kind_of(entry);
-    let a = if entry < 60 {
-        entry / 15
+    let a = if entry < OWN {
+        entry / (3 * MOVEMENT)
     } else {
-        (entry - 60) / 5
+        (entry - OWN) / 5
     };
     copy_lines(sheet, fresh, a, REACHED[kind]);
     if REACHED[kind] == ALL {
@@ -775,12 +813,39 @@ pub fn amend(sheet: &mut [u32], entry: u32, value: u32) -> Answer {
 
 // ---------------------------------------------------------------- study files
 
-pub const BLOCK: usize = 4 * ENTRIES;
-const OPENING: &[u8; 4] = b"ICUS";
+/// A kind of study file: its first four bytes, the most sites, the entries of a site.
+struct Kind {
+    opening: &'static [u8; 4],
+    sites: usize,
+    entries: usize,
+}
 
-/// How many bytes a file of k sites has.
+/// The kind that is written, and the one from before lane factors were measured, which is still read.
+const KIND: Kind = Kind {
+    opening: b"ICUT",
+    sites: SITES,
+    entries: ENTRIES,
+};
+const OLD_KIND: Kind = Kind {
+    opening: b"ICUS",
+    sites: OLD_SITES,
+    entries: OLD_ENTRIES,
+};
+
+impl Kind {
+    /// Where block j of k stands; block k would begin where the file ends.
+    const fn block(&self, k: usize, j: usize) -> usize {
+        8 + 4 * k + 4 * self.entries * j
+    }
+}
+
+/// How many bytes a file of k sites has, and one of before.
 pub const fn file_length(k: usize) -> usize {
-    8 + (4 + BLOCK) * k
+    KIND.block(k, k)
+}
+
+pub const fn old_file_length(k: usize) -> usize {
+    OLD_KIND.block(k, k)
 }
 
 /// The number at a place of the file, none where the file ends before its last byte.
@@ -789,34 +854,48 @@ fn number_at(file: &[u8], at: usize) -> Option<u32> {
     Some(u32::from_le_bytes(bytes.try_into().ok()?))
 }
 
-/// The count of a well laid out file, or the place of the first wrong field.
-fn layout(file: &[u8]) -> Result<usize, usize> {
-    let opening = number_at(file, 0).ok_or(file.len())?;
-    if opening != u32::from_le_bytes(*OPENING) {
-        return Err(0);
-    }
+/// The kind and the count of a well laid out file, or the place of the first wrong field.
+fn layout(file: &[u8]) -> Result<(&'static Kind, usize), usize> {
+    let opening = number_at(file, 0).ok_or(file.len())?.to_le_bytes();
+    let kinds = [&KIND, &OLD_KIND];
+    let kind = kinds.into_iter().find(|kind| *kind.opening == opening);
+    let kind = kind.ok_or(0usize)?;
     let k = number_at(file, 4).ok_or(file.len())? as usize;
-    if k > SITES {
+    if k > kind.sites {
         return Err(4);
     }
     for j in 0..k {
         let at = 8 + 4 * j;
         let offset = number_at(file, at).ok_or(file.len())?;
-        if offset as usize != 8 + 4 * k + BLOCK * j {
+        if offset as usize != kind.block(k, j) {
             return Err(at);
         }
     }
-    match file.len() == file_length(k) {
-        true => Ok(k),
-        false => Err(file.len().min(file_length(k))),
+    let end = kind.block(k, k);
+    match file.len() == end {
+        true => Ok((kind, k)),
+        false => Err(file.len().min(end)),
     }
 }
 
-fn block(file: &[u8], k: usize, site: usize) -> [u32; ENTRIES] {
-    let bytes = &file[8 + 4 * k + BLOCK * site..][..BLOCK];
-    let mut entries = [0; ENTRIES];
-    for (entry, four) in entries.iter_mut().zip(bytes.chunks_exact(4)) {
-        *entry = u32::from_le_bytes([four[0], four[1], four[2], four[3]]);
+/// Where an entry of a site of before stands today.
+pub const fn place_today(entry: usize) -> usize {
+    match entry {
+        0..60 => movement_entry(0, entry / 5, entry % 5),
+        _ => entry + ENTRIES - OLD_ENTRIES,
+    }
+}
+
+/// The entries of a site of a good file; of a file of before, the table's factors with them.
+fn block(file: &[u8], (kind, k): (&Kind, usize), site: usize) -> [u32; ENTRIES] {
+    let bytes = &file[kind.block(k, site)..kind.block(k, site + 1)];
+    let numbers = bytes
+        .chunks_exact(4)
+        .map(|four| u32::from_le_bytes([four[0], four[1], four[2], four[3]]));
+    let old = kind.entries == OLD_ENTRIES;
+    let mut entries = [BY_TABLE; ENTRIES];
+    for (at, number) in numbers.enumerate() {
+        entries[if old { place_today(at) } else { at }] = number;
     }
     entries
 }
@@ -830,7 +909,12 @@ pub fn study_check(file: &[u8]) -> Answer {
 
 /// How many sites the file has; 0 for a bad one.
 pub fn study_count(file: &[u8]) -> u32 {
-    layout(file).unwrap_or(0) as u32
+    layout(file).map_or(0, |(_, k)| k as u32)
+}
+
+/// Whether a good file is one of before.
+pub fn study_is_old(file: &[u8]) -> bool {
+    layout(file).is_ok_and(|(kind, _)| kind.entries == OLD_ENTRIES)
 }
 
 pub fn study_site(file: &[u8], site: u32, entries: &mut [u32]) -> Answer {
@@ -839,9 +923,9 @@ pub fn study_site(file: &[u8], site: u32, entries: &mut [u32]) -> Answer {
     }
     match layout(file) {
         Err(place) => refused(FILE, place as u32),
-        Ok(k) if site as usize >= k => refused(FILE, 4),
-        Ok(k) => {
-            entries.copy_from_slice(&block(file, k, site as usize));
+        Ok((_, k)) if site as usize >= k => refused(FILE, 4),
+        Ok(found) => {
+            entries.copy_from_slice(&block(file, found, site as usize));
             ACCEPTED
         }
     }
@@ -858,9 +942,9 @@ pub fn study_write(entries: &[u32], out: &mut [u8]) -> Answer {
     if out.len() < file_length(k) {
         return refused(FILE, 4);
     }
-    out[..4].copy_from_slice(OPENING);
+    out[..4].copy_from_slice(KIND.opening);
     let count = std::iter::once(k as u32);
-    let offsets = (0..k).map(|j| (8 + 4 * k + BLOCK * j) as u32);
+    let offsets = (0..k).map(|j| KIND.block(k, j) as u32);
     let numbers = count.chain(offsets).chain(entries.iter().copied());
     for (four, number) in out[4..].chunks_exact_mut(4).zip(numbers) {
         four.copy_from_slice(&number.to_le_bytes());
@@ -906,8 +990,8 @@ fn push_rating(text: &mut Vec<u8>, sheet: &[u32; CELLS]) {
 
 /// What `iculist` prints for a file.
 pub fn listing(file: &[u8]) -> Vec<u8> {
-    let k = match layout(file) {
-        Ok(k) => k,
+    let (kind, k) = match layout(file) {
+        Ok(found) => found,
         Err(place) => {
             let mut text = b"file".to_vec();
             push_refusal(&mut text, refused(FILE, place as u32));
@@ -918,7 +1002,7 @@ pub fn listing(file: &[u8]) -> Vec<u8> {
     let mut text = Vec::with_capacity(LONGEST_LINE * k);
     let mut sheet = [0; CELLS];
     for site in 0..k {
-        let answer = fill(&block(file, k, site), &mut sheet);
+        let answer = fill(&block(file, (kind, k), site), &mut sheet);
         push_number(&mut text, site as u32 + 1);
         match answer {
             ACCEPTED => push_rating(&mut text, &sheet),

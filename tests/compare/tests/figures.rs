@@ -1,20 +1,21 @@
-//! Every figure the paper gives for K1 to K10, its listing, the book's third example, bus gates and two
-//! offices' steps in one study, against the plain rules.
+//! Every figure the paper gives for K1 to K10, its listing, the book's third example, bus gates, measured lane
+//! factors, study files of both kinds and two offices' steps in one study, against the plain rules.
 
+use compare::generate::{laid_out, laid_out_before};
 use compare::rules::*;
 use compare::{diamond, open};
 
 fn k1() -> [u32; ENTRIES] {
     let mut e = [0; ENTRIES];
     for m in 0..12 {
-        e[5 * m..5 * m + 5].copy_from_slice(&match m % 3 {
-            0 => [1, 100, 1_900, 4_000, 4_000],
-            1 => [1, 400, 1_900, 4_000, 4_000],
-            _ => [0, 0, 1_900, 4_000, 4_000],
+        e[6 * m..6 * m + 6].copy_from_slice(&match m % 3 {
+            0 => [1, 100, 1_900, 4_000, 4_000, 0],
+            1 => [1, 400, 1_900, 4_000, 4_000, 0],
+            _ => [0, 0, 1_900, 4_000, 4_000, 0],
         });
     }
     for a in 0..4 {
-        e[60 + 5 * a..65 + 5 * a].copy_from_slice(&[0, 0, 1, 16_000, 0]);
+        e[72 + 5 * a..77 + 5 * a].copy_from_slice(&[0, 0, 1, 16_000, 0]);
     }
     e[CYCLE] = 120;
     e
@@ -23,11 +24,8 @@ fn k1() -> [u32; ENTRIES] {
 fn k2() -> [u32; ENTRIES] {
     let mut e = k1();
     for a in 0..4 {
-        for (turn, (lanes, volume)) in [(0, 100), (1, 300), (0, 100)].into_iter().enumerate() {
-            e[15 * a + 5 * turn] = lanes;
-            e[15 * a + 5 * turn + 1] = volume;
-        }
-        e[60 + 5 * a] = 1;
+        put_leg(&mut e, a, [(0, 100), (1, 300), (0, 100)]);
+        e[72 + 5 * a] = 1;
     }
     e
 }
@@ -94,9 +92,9 @@ fn gate(ideals: [u32; 3], turns: [(u32, u32); 3], shared: u32) -> [u32; ENTRIES]
     let mut e = k1();
     put_leg(&mut e, 0, turns);
     for (turn, ideal) in ideals.into_iter().enumerate() {
-        e[5 * turn + 2] = ideal;
+        e[6 * turn + 2] = ideal;
     }
-    e[60] = shared;
+    e[72] = shared;
     e
 }
 
@@ -117,24 +115,113 @@ fn bus_gates() {
     assert_eq!(found(&e, &[5, 6, 7, 15]), [27_756, 27_321, 15_045, 71_785]);
     // two shared lanes, 120 westbound: sB is 9,343 of 18,687
     let mut e = gate([1_000; 3], [(0, 90), (2, 650), (0, 70)], 1);
-    e[21] = 120;
+    e[25] = 120;
     assert_eq!(found(&e, &[6, 8, 23, 24]), [18_687, 18_762, BLANK, 50_068]);
     // 300 lefts of a shared lane at 1,001
     let mut e = gate([1_001, 1_000, 1_000], [(0, 300), (1, 20), (0, 0)], 1);
-    e[21] = 120;
+    e[25] = 120;
     assert_eq!(found(&e, &[9, 24, 27]), [9_509, 45_859, 40_290]);
+}
+
+/// Some lines of an approach.
+fn lines(e: &[u32; ENTRIES], a: usize, which: &[usize]) -> Vec<u32> {
+    let s = sheet(e);
+    which.iter().map(|&k| line(&s, a, k)).collect()
+}
+
+#[test]
+fn measured_lane_factors() {
+    // one lane, half used: also where the table would leave it
+    let all: Vec<_> = (0..12).map(|m| (6 * m + 5, 500)).collect();
+    let half = with(with(k1(), &[(1, 59)]), &all);
+    assert_eq!(
+        lines(&half, 0, &[5, 6, 7, 8, 9, 13, 14]),
+        [9_025, 9_500, 0, 9_500, 9_025, 7_845, 50_527]
+    );
+    // two lanes of each: 1,900·2·930·9,500, 870·10,000 and 790·8,500, over 10⁶
+    let mut two = k1();
+    put_leg(&mut two, 0, [(2, 300), (2, 800), (2, 500)]);
+    let table = lines(&two, 0, &[5, 6, 7, 8, 9]);
+    assert_eq!(table, [35_053, 36_176, 28_585, 36_176, 35_053]);
+    let two = with(two, &[(5, 930), (11, 870), (17, 790)]);
+    let counted = lines(&two, 0, &[5, 6, 7, 8, 9]);
+    assert_eq!(counted, [33_573, 33_060, 25_517, 33_060, 33_573]);
+    // four lanes all used alike
+    let mut four = k1();
+    put_leg(&mut four, 0, [(1, 100), (4, 2_400), (0, 90)]);
+    assert_eq!(lines(&with(four, &[(11, 1_000)]), 0, &[6, 8]), [75_582; 2]);
+    // movements without lanes: nothing
+    let idle = [(17, 500), (35, 500), (53, 1_000)];
+    assert_eq!(sheet(&with(k1(), &idle))[ENTRIES..], sheet(&k1())[ENTRIES..]);
+}
+
+#[test]
+fn lefts_of_a_shared_lane_by_their_own_factor() {
+    // 300 lefts and 20 through in one lane, 110 oncoming: 1,900·600·9,500 over 10⁶ is line 9
+    let mut e = k1();
+    put_leg(&mut e, 0, [(0, 300), (1, 20), (0, 0)]);
+    put_leg(&mut e, 1, [(0, 0), (1, 110), (0, 0)]);
+    e[72] = 1;
+    let own = with(e, &[(5, 600), (11, 900)]);
+    assert_eq!(
+        lines(&own, 0, &[5, 6, 8, 9, 24, 27]),
+        [0, 16_298, 17_100, 10_830, 41_241, 33_241]
+    );
+    let through = with(e, &[(11, 600)]);
+    assert_eq!(
+        lines(&through, 0, &[5, 6, 8, 9, 24, 27]),
+        [0, 10_865, 11_400, 18_050, 27_945, 35_343]
+    );
+}
+
+#[test]
+fn lane_factors_out_of_range() {
+    for m in 0..12 {
+        for value in [0, 500, 971, 1_000] {
+            assert_eq!(judge(&with(k1(), &[(6 * m + 5, value)])), ACCEPTED);
+        }
+        for value in [1, 499, 1_001, 971_000, u32::MAX] {
+            let answer = judge(&with(k1(), &[(6 * m + 5, value), (CYCLE, 29)]));
+            assert_eq!((answer.number, answer.place), (RANGE, 6 * m as u32 + 5));
+        }
+    }
+}
+
+#[test]
+fn amended_lane_factors() {
+    // a factor reaches what lanes reach, and is the fresh fill there
+    for m in 0..12 {
+        for value in [500, 871, 1_000, 0] {
+            let mut s = sheet(&with(k2(), &[(6 * m + 5, 700)]));
+            assert_eq!(amend(&mut s, 6 * m as u32 + 5, value), ACCEPTED);
+            assert_eq!(s, sheet(&with(k2(), &[(6 * m + 5, value)])));
+        }
+        let [mut by_lanes, mut by_factor] = [[7; CELLS]; 2];
+        for (s, entry) in [(&mut by_lanes, 6 * m), (&mut by_factor, 6 * m + 5)] {
+            s[..ENTRIES].copy_from_slice(&k1());
+            assert_eq!(amend(s, entry as u32, k1()[entry]), ACCEPTED);
+        }
+        assert_eq!(by_lanes, by_factor);
+    }
+    let mut s = sheet(&k1());
+    for (entry, value, number, place) in [(93, 0, ENTRY, 0), (5, 499, RANGE, 5), (92, 29, RANGE, 92)]
+    {
+        let answer = amend(&mut s, entry, value);
+        assert_eq!((answer.number, answer.place), (number, place));
+    }
+    assert_eq!(s, sheet(&k1()));
 }
 
 #[test]
 fn k3_walkers() {
     assert_eq!(decay(2 * 60 * 120), 135_335_283);
-    let s = sheet(&with(k1(), &[(61, 60), (63, 40_000)]));
+    let s = sheet(&with(k1(), &[(73, 60), (75, 40_000)]));
     assert_eq!((line(&s, 0, 12), line(&s, 0, 17)), (8_647, 42_007));
 }
 
 #[test]
 fn k4_to_k6_letters() {
-    let empty: Vec<_> = (0..12).map(|m| (5 * m + 1, 0)).collect();
+    let empty: Vec<_> = (0..12).map(|m| (6 * m + 1, 0)).collect();
     let s = sheet(&with(k1(), &empty));
     assert_eq!(
         (s[LAST + 6], s[LAST + 7], s[PAIRS + 3], s[PAIRS + 7]),
@@ -146,8 +233,8 @@ fn k4_to_k6_letters() {
 #[test]
 fn k7_to_k10_options() {
     let eb = |changes, k| line(&sheet(&with(k1(), changes)), 0, k);
-    assert_eq!(eb(&[(21, 120)], 24), 25_264);
-    assert_eq!(eb(&[(21, 121)], 24), BLANK);
+    assert_eq!(eb(&[(25, 120)], 24), 25_264);
+    assert_eq!(eb(&[(25, 121)], 24), BLANK);
     assert_eq!(eb(&[(1, 59)], 5), 18_050);
     assert_eq!(eb(&[(1, 59)], 23), 117_804);
     assert_eq!(eb(&[(1, 60)], 23), BLANK);
@@ -159,12 +246,69 @@ fn the_papers_listing() {
     entries.extend(with(k1(), &[(CYCLE, 29)]));
     let mut file = vec![0; file_length(2)];
     assert_eq!(study_write(&entries, &mut file), ACCEPTED);
-    assert_eq!(listing(&file), b"1 666 C PP\n2 R3 80\n");
+    assert_eq!(listing(&file), b"1 666 C PP\n2 R3 92\n");
     file.pop();
     assert_eq!(
         listing(&file),
         format!("file R6 {}\n", file.len()).as_bytes()
     );
+}
+
+/// A site as it stood before lane factors were measured.
+fn narrowed(e: &[u32; ENTRIES]) -> Vec<u32> {
+    let factor = |place: &usize| *place < OWN && place % MOVEMENT == FACTOR;
+    let places = (0..ENTRIES).filter(|place| !factor(place));
+    places.map(|place| e[place]).collect()
+}
+
+#[test]
+fn study_files_of_before() {
+    let bad = with(k2(), &[(CYCLE, 29)]);
+    let old = laid_out_before(&[narrowed(&k1()), narrowed(&bad)].concat());
+    assert_eq!((old.len(), old_file_length(2)), (664, 664));
+    assert_eq!(study_check(&old), ACCEPTED);
+    assert!(study_is_old(&old) && study_count(&old) == 2);
+    assert_eq!(listing(&old), b"1 666 C PP\n2 R3 92\n");
+    for (site, wanted) in [k1(), bad].iter().enumerate() {
+        let mut entries = [7; ENTRIES];
+        assert_eq!(study_site(&old, site as u32, &mut entries), ACCEPTED);
+        assert_eq!(entries, *wanted);
+    }
+    let mut entries = [7; ENTRIES];
+    assert_eq!(study_site(&old, 2, &mut entries).place, 4);
+    assert_eq!(study_site(&old, 0, &mut [0; OLD_ENTRIES]).number, SIZE);
+    assert_eq!(entries, [7; ENTRIES]);
+}
+
+#[test]
+fn study_files_of_both_kinds() {
+    let place = |file: &[u8]| {
+        let answer = study_check(file);
+        (answer.number, answer.place)
+    };
+    let full = |sites: usize| laid_out(&k1().repeat(sites));
+    let old_full = |sites: usize| laid_out_before(&narrowed(&k1()).repeat(sites));
+    assert_eq!((full(165).len(), file_length(165)), (62_048, 62_048));
+    assert_eq!((place(&full(165)), place(&full(166))), ((0, 0), (FILE, 4)));
+    let old = [180, 181].map(|sites| place(&old_full(sites)));
+    assert_eq!(old, [(0, 0), (FILE, 4)]);
+    for (file, other) in [(full(2), b"ICUS"), (old_full(2), b"ICUT")] {
+        let mut file = file;
+        assert_eq!(place(&file[..3]), (FILE, 3));
+        assert_eq!(place(&file[..5]), (FILE, 5));
+        file[..4].copy_from_slice(other);
+        assert_eq!(place(&file), (FILE, 12));
+        file[..4].copy_from_slice(b"ICUO");
+        assert_eq!(place(&file), (FILE, 0));
+    }
+    // only today's is written
+    let mut out = vec![9; 384 + 5];
+    assert_eq!(study_write(&k1(), &mut out), ACCEPTED);
+    assert_eq!((&out[..384], &out[384..]), (&full(1)[..], &[9; 5][..]));
+    assert_eq!(study_write(&k1(), &mut [0; 383]).place, 4);
+    assert_eq!(study_write(&narrowed(&k1()), &mut out).number, SIZE);
+    let answer = study_write(&k1().repeat(166), &mut []);
+    assert_eq!((answer.number, answer.place), (FILE, 0));
 }
 
 /// A T junction whose southbound leg is closed, and people cross there.
@@ -177,12 +321,9 @@ fn closed_leg(button: u32) -> [u32; ENTRIES] {
     ];
     let mut e = k1();
     for (a, turns) in lanes_and_volumes.into_iter().enumerate() {
-        for (turn, (lanes, volume)) in turns.into_iter().enumerate() {
-            e[15 * a + 5 * turn] = lanes;
-            e[15 * a + 5 * turn + 1] = volume;
-        }
+        put_leg(&mut e, a, turns);
     }
-    e[75..80].copy_from_slice(&[0, 60, button, 20_000, 0]);
+    e[87..92].copy_from_slice(&[0, 60, button, 20_000, 0]);
     e
 }
 
@@ -199,22 +340,22 @@ fn nobody_drives_and_people_cross() {
         assert_eq!(s[LAST + 5], required);
     }
     // without pedestrians, or without through lanes, all stay 0
-    for change in [(76, 0), (50, 0)] {
+    for change in [(88, 0), (60, 0)] {
         let s = sheet(&with(closed_leg(0), &[change]));
         assert_eq!([17, 26, 28].map(|k| line(&s, 3, k)), [0; 3]);
         assert_eq!(s[PAIRS + 4..PAIRS + 8], [13_973, 21_973, 13_973, 0]);
     }
     // lefts alone: line 17 is for those who cross, 26 and 28 go by the lefts
-    let s = sheet(&with(closed_leg(0), &[(45, 1), (46, 50)]));
+    let s = sheet(&with(closed_leg(0), &[(54, 1), (55, 50)]));
     assert_eq!(line(&s, 3, 17), 24_000);
     assert_eq!([27, 28].map(|k| line(&s, 3, k)), [3_325, 24_000]);
 }
 
-/// Lanes and volumes of an approach as the book's third example prints them.
+/// Lanes and volumes of an approach.
 fn put_leg(e: &mut [u32], a: usize, turns: [(u32, u32); 3]) {
     for (turn, (lanes, volume)) in turns.into_iter().enumerate() {
-        e[15 * a + 5 * turn] = lanes;
-        e[15 * a + 5 * turn + 1] = volume;
+        e[18 * a + 6 * turn] = lanes;
+        e[18 * a + 6 * turn + 1] = volume;
     }
 }
 
@@ -223,7 +364,7 @@ fn example_3() -> diamond::Record {
     let mut record = [0; diamond::RECORD];
     for side in [0, diamond::EAST] {
         for m in 0..12 {
-            record[side + 5 * m + 2..side + 5 * m + 5].copy_from_slice(&[2_000, 4_000, 4_000]);
+            record[side + 6 * m + 2..side + 6 * m + 5].copy_from_slice(&[2_000, 4_000, 4_000]);
         }
         record[side + CYCLE] = 120;
     }
@@ -234,7 +375,7 @@ fn example_3() -> diamond::Record {
     put_leg(east, 1, [(0, 0), (2, 600), (1, 200)]);
     put_leg(east, 0, [(1, 200), (2, 800), (0, 0)]);
     put_leg(east, 2, [(2, 800), (0, 0), (1, 100)]);
-    east[60 + 5 + 4] = 1;
+    east[72 + 5 + 4] = 1;
     record[diamond::STORAGES..].copy_from_slice(&[19, 19, 26, 26, 7_100]);
     record
 }
@@ -296,21 +437,22 @@ fn refused_records() {
         let found = diamond::judge(&record);
         (found.number, found.place)
     };
-    let (late, shared) = ([(162, 0), (166, 60_001)], [(65, 1), (81 + 60, 1)]);
-    assert_eq!(answer(&late), (7, 162));
-    assert_eq!(answer(&[(165, 1_000), (166, 60_001)]), (7, 165));
-    assert_eq!(answer(&late[1..]), (8, 166));
-    assert_eq!(answer(&[(81 + 45, 0), (81 + 46, 1), late[0]]), (5, 21));
-    assert_eq!(answer(&[(81 + 30, 0), (15, 0), late[0]]), (5, 3));
-    assert_eq!(answer(&[shared[1], (50, 0), late[0]]), (4, 4));
-    assert_eq!(answer(&[shared[0], shared[1], (50, 0)]), (4, 1));
-    assert_eq!(answer(&[(161, 121), shared[0]]), (3, 161));
-    assert_eq!(answer(&[(161, 121), (160, 2)]), (3, 160));
-    assert_eq!(answer(&[(80, 121)]), (3, 161));
-    assert_eq!(answer(&[(80, 29), (161, 29), (81, 7)]), (3, 80));
-    assert_eq!(answer(&[(81, 7), shared[0]]), (3, 81));
+    let (late, shared) = ([(186, 0), (190, 60_001)], [(77, 1), (93 + 72, 1)]);
+    assert_eq!(answer(&late), (7, 186));
+    assert_eq!(answer(&[(189, 1_000), (190, 60_001)]), (7, 189));
+    assert_eq!(answer(&late[1..]), (8, 190));
+    assert_eq!(answer(&[(93 + 54, 0), (93 + 55, 1), late[0]]), (5, 21));
+    assert_eq!(answer(&[(93 + 36, 0), (18, 0), late[0]]), (5, 3));
+    assert_eq!(answer(&[shared[1], (60, 0), late[0]]), (4, 4));
+    assert_eq!(answer(&[shared[0], shared[1], (60, 0)]), (4, 1));
+    assert_eq!(answer(&[(185, 121), shared[0]]), (3, 185));
+    assert_eq!(answer(&[(185, 121), (184, 2)]), (3, 184));
+    assert_eq!(answer(&[(92, 121)]), (3, 185));
+    assert_eq!(answer(&[(92, 29), (185, 29), (93, 7)]), (3, 92));
+    assert_eq!(answer(&[(93, 7), shared[0]]), (3, 93));
+    assert_eq!(answer(&[(93 + 11, 499), (185, 121)]), (3, 104));
     assert_eq!(
-        diamond::judge(&[0; 166]),
+        diamond::judge(&[0; 190]),
         Answer {
             number: SIZE,
             place: 0
@@ -388,16 +530,18 @@ fn refused_in_order() {
     assert_eq!(study.add(1, &k1()), (0, 0));
     let bad = with(k1(), &[(CYCLE, 29)]);
     assert_eq!(study.add(0, &bad), (open::OWNER, 0));
-    assert_eq!(study.add(1, &bad), (RANGE, 80));
-    assert_eq!(study.add(0, &bad[..80]), (SIZE, 0));
-    for site in [1, 180, u32::MAX] {
+    assert_eq!(study.add(1, &bad), (RANGE, 92));
+    assert_eq!(study.add(0, &bad[..92]), (SIZE, 0));
+    assert_eq!(study.add(1, &narrowed(&k1())), (SIZE, 0));
+    for site in [1, 165, u32::MAX] {
         assert_eq!(study.amend(1, site, CYCLE as u32, 29), (open::OWNER, site));
-        assert_eq!(study.amend(0, site, 81, 0), (ENTRY, 0));
+        assert_eq!(study.amend(0, site, 93, 0), (ENTRY, 0));
         assert_eq!(study.read(1, site), Err((open::OWNER, site)));
         assert_eq!(study.read(0, site), Err((open::OWNER, site)));
     }
-    assert_eq!(study.amend(1, 0, 60, 1), (SHARED, 0));
-    assert_eq!(study.amend(1, 0, 35, 0), (NOLANE, 7));
+    assert_eq!(study.amend(1, 0, 72, 1), (SHARED, 0));
+    assert_eq!(study.amend(1, 0, 42, 0), (NOLANE, 7));
+    assert_eq!(study.amend(1, 0, 5, 499), (RANGE, 5));
     study.blocks[3] = 20_001;
     assert_eq!(study.amend(1, 0, CYCLE as u32, 90), (RANGE, 3));
     assert_eq!(study.read(1, 0), Err((RANGE, 3)));
@@ -405,10 +549,10 @@ fn refused_in_order() {
     study.owners.fill(9);
     study.place = 999;
     assert_eq!(study.add(1, &k1()), (open::FULL, 0));
-    assert_eq!(study.add(1, &bad), (RANGE, 80));
+    assert_eq!(study.add(1, &bad), (RANGE, 92));
     assert_eq!(study.place, 999);
     study.owners.push(0);
     assert_eq!(study.add(1, &k1()), (SIZE, 0));
-    assert_eq!(study.amend(9, 0, 81, 0), (SIZE, 0));
+    assert_eq!(study.amend(9, 0, 93, 0), (SIZE, 0));
     assert_eq!(study.read(9, 0), Err((SIZE, 0)));
 }

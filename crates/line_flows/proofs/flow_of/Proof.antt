@@ -9,12 +9,12 @@ use Rattle.line_flows.proofs.flow_of.Tie as tie
 
 -- the products on the way to the flow
 room :
-    (c : tie.After-lane-factor)
-    → FlowRoom (c .before .before .before .args .ideal .0) (c .before .before .before .args .lanes .0) (c .lane-factor .result)
-    (c .before .before .before .args .factor)
+    (c : tie.After-factor-of)
+    → FlowRoom (c .before .before .before .args .ideal .0) (c .before .before .before .args .lanes .0) (c .factor-of .result)
+    (c .before .before .before .args .turning)
 room c =
     let p = c .before .before .before .pre in
-    flow-room _ _ _ _ (p .0) (p .1) (c .lane-factor .ensures .1) (p .2)
+    flow-room _ _ _ _ (p .0) (p .1) (c .factor-of .ensures .1) (p .3)
 
 returns : tie.Need-returns
 unfolding flowOf
@@ -29,15 +29,15 @@ mul-scaled-2 c = omega (arith, room (c .before .before))
 mul-scaled-3 : tie.Need-mul-scaled-3
 mul-scaled-3 c = omega (arith, room (c .before .before))
 
-cast-t8 : tie.Need-cast-t8
-cast-t8 c = omega (arith, room (c .before .before))
+cast-t9 : tie.Need-cast-t9
+cast-t9 c = omega (arith, room (c .before .before))
 
 returns-2 : tie.Need-returns-2
 unfolding flowOf
-returns-2 c = rw (ne-eqb _ _ (c .before .before .before .if1 .left), ← c .before .before .lane-factor .ensures .0)
+returns-2 c = rw (ne-eqb _ _ (c .before .before .before .if1 .left), ← c .before .before .factor-of .ensures .0)
 
 pub flow-of-spec : {M : Type 1} → statement M
 flow-of-spec =
     tie.close
     (tie.spec returns (search needs) (search needs) (search needs) (search needs) mul-scaled mul-scaled-2 mul-scaled-3
-    cast-t8 returns-2)
+    cast-t9 returns-2)

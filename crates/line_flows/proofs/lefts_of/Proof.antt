@@ -7,7 +7,9 @@ use Rattle.line_flows.proofs.lefts_of.Statement.{statement}
 use Rattle.line_flows.proofs.lefts_of.Tie as tie
 
 flow-of-requires : tie.Need-flow-of-requires
-flow-of-requires c κs = (c .before .before .before .pre .0 .group Left .ideal .most, rw (c .new .ensures) (lit≤ tt), lit≤ tt)
+flow-of-requires c κs =
+    let left = c .before .before .before .pre .0 .group Left in
+    (left .ideal .most, rw (c .new .ensures) (lit≤ tt), left .measured .most, lit≤ tt)
 
 returns : tie.Need-returns
 unfolding sSL

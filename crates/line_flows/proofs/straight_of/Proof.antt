@@ -1,6 +1,6 @@
 -- `line_flows::straight_of`. Without folded lefts line 8 is line 6, by a law; else the formula, within its bounds.
 use Rattle.line_bounds.proofs.Flows.{volumes, flow-ready, straight-between, straight-alike}
-use Rattle.procedure.specs.Lines.{a, b, vST, sST}
+use Rattle.procedure.specs.Lines.{a, b, vST, factor, sST}
 use Rattle.kinds.specs.declared.Group.the-variants.{Through}
 use native.Mathlib.Omega.{arith}
 use mathlib.Core.Path.{_≡_, sym, _∙_}
@@ -20,15 +20,15 @@ straight-turning-of-requires c κs =
     let v = volumes (s .args .s) (s .pre .0) in
     rw (s .pre .1) (omega arith, v .foldedright)
 
-flow-of-requires : tie.Need-flow-of-requires
-flow-of-requires c κs =
+group-flow-requires : tie.Need-group-flow-requires
+group-flow-requires c κs =
     let s = c .before .before .before in
     let most = straight-between (vST (s .args .s)) (a (s .args .s)) (volumes (s .args .s) (s .pre .0) .foldedright) .most in
     flow-ready _ (s .pre .0) Through _ (rw (c .straight-turning-of .ensures, s .pre .1) most)
 
 returns-2 : tie.Need-returns-2
-unfolding sST
-returns-2 c = rw (c .flow-of .ensures, c .before .straight-turning-of .ensures, c .before .before .before .before .pre .1)
+unfolding factor sST
+returns-2 c = rw (c .group-flow .ensures, c .before .straight-turning-of .ensures, c .before .before .before .before .pre .1)
 
 pub straight-of-spec : {M : Type 1} → statement M
-straight-of-spec = tie.close (tie.spec returns straight-turning-of-requires flow-of-requires returns-2)
+straight-of-spec = tie.close (tie.spec returns straight-turning-of-requires group-flow-requires returns-2)

@@ -32,7 +32,9 @@ block-requires c κs =
 
 returns-2 : tie.Need-returns-2
 unfolding readAnswer
-returns-2 c = judged-last _ (may (c .before .before .before .before)) (c .before .before .enum-told .given .1) (c .judge .ensures ∙ ap judged (c .before .block .ensures))
+returns-2 c =
+    let block = c .before in
+    judged-last _ (may (block .before .before .before)) (block .before .enum-told .given .1) (c .judge .ensures ∙ ap judged (block .block .ensures))
 
 pub judge-read-spec : {M : Type 1} → statement M
 judge-read-spec =

@@ -36,17 +36,36 @@ returns-4 c =
 returns-5 : tie.Need-returns-5
 unfolding shown
 returns-5 c =
+    let timed = c .before .before .before in
+    rw (
+      c .field-text3 .ensures,
+      ne-eqb _ _ (timed .before .before .if1 .left),
+      ne-eqb _ _ (timed .before .if2 .left),
+      eq-eqb _ _ (c .before .before .if6 .taken),
+      c .before .if7 .taken,
+    )
+    (⊎-elim (λ w. rw (eq-eqb _ _ (w .0 .taken), w .1 .left)) (λ w. rw (ne-eqb _ _ (w .left))) (timed .if4 .came))
+
+returns-6 : tie.Need-returns-6
+unfolding shown
+returns-6 c =
     let last = c .before .before in
+    let timed = last .before in
     rw (
       c .number-byte .ensures,
       c .before .decimals-of .ensures,
-      ne-eqb _ _ (last .before .before .if1 .left),
-      ne-eqb _ _ (last .before .if2 .left),
+      ne-eqb _ _ (timed .before .before .if1 .left),
+      ne-eqb _ _ (timed .before .if2 .left),
     )
-    (⊎-elim (λ w. rw (eq-eqb _ _ (w .0 .taken), w .1 .left)) (λ w. rw (ne-eqb _ _ (w .left))) (last .if4 .came))
+    (⊎-elim
+    (λ w.
+    rw (eq-eqb _ _ (w .0 .taken), w .1 .left)
+    (⊎-elim (λ u. rw (eq-eqb _ _ (u .0 .taken), u .1 .left)) (λ u. rw (ne-eqb _ _ (u .left))) (last .if6 .came)))
+    (λ w. rw (ne-eqb _ _ (w .left)) (⊎-elim (λ u. rw (eq-eqb _ _ (u .0 .taken), u .1 .left)) (λ u. rw (ne-eqb _ _ (u .left))) (last .if6 .came)))
+    (timed .if4 .came))
 
 pub shown-spec : {M : Type 1} → statement M
 shown-spec =
     tie.close
     (tie.spec (search needs) (search needs) returns (search needs) (search needs) returns-2 returns-3 (search needs)
-    returns-4 (search needs) (search needs) returns-5)
+    returns-4 (search needs) returns-5 (search needs) (search needs) returns-6)

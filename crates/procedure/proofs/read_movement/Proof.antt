@@ -7,16 +7,18 @@ use Rattle.procedure.proofs.read_movement.Tie as tie
 
 returns : tie.Need-returns
 returns c =
-    let lost = c .before .before in
+    let green = c .before .before in
+    let lost = green .before .before in
     let ideal = lost .before .before in
     let volume = ideal .before .before in
     let lanes = volume .before .before in
     is-movement _ _ _ (lanes .new .ensures ∙ lanes .before .movement-value .ensures .0) (volume .new2 .ensures ∙ volume .before .movement-value2 .ensures .0)
     (ideal .new3 .ensures ∙ ideal .before .movement-value3 .ensures .0) (lost .new4 .ensures ∙ lost .before .movement-value4 .ensures .0)
-    (c .new5 .ensures ∙ c .before .movement-value5 .ensures .0)
+    (green .new5 .ensures ∙ green .before .movement-value5 .ensures .0) (c .new6 .ensures ∙ c .before .movement-value6 .ensures .0)
 
 pub read-movement-spec : {M : Type 1} → statement M
 read-movement-spec =
     tie.close
     (tie.spec (λ c κs. search needs) (λ c κs. search needs) (λ c κs. search needs) (λ c κs. search needs) (λ c κs. search needs)
-    (λ c κs. search needs) (λ c κs. search needs) (λ c κs. search needs) (λ c κs. search needs) (λ c κs. search needs) returns)
+    (λ c κs. search needs) (λ c κs. search needs) (λ c κs. search needs) (λ c κs. search needs) (λ c κs. search needs) (λ c κs. search needs)
+    (λ c κs. search needs) returns)

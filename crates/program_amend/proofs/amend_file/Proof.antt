@@ -11,15 +11,18 @@ change-all-requires : tie.Need-change-all-requires
 change-all-requires c κs =
     let changes = c .before .before in
     let start = changes .before .before .before .before .before .before .before .before .before .before in
-    rw (changes .changes-in .ensures) (few-changes (start .args .count) (start .pre))
+    rw (changes .changes-in .ensures) (few-changes (start .args .count) (start .pre .0))
 
 give-requires : tie.Need-give-requires
 give-requires c κs =
-    let call = c .before .before .before .before .before in
+    let kept = c .before .before .before .before in
+    let call = kept .before in
     let told = call .before .before .before .before .before in
     let read = told .before .before in
+    let start = read .before .before .before .before .before .before in
     let came = call .change-all .ensures in (
       site-there _ _ (sym (read .read-site .ensures .0) ∙ told .sought .given .1),
+      λ is. start .pre .1 (sym (kept .is-kept .ensures) ∙ is),
       λ made. rw (came .entries) (made-acceptable _ _ _ _ (sym (came .made) ∙ made)),
     )
 

@@ -13,10 +13,12 @@ returns c =
     rw (none, c .only-said .ensures) (placed-nothing _ 0, (placed-nothing _ 0, refl))
 
 print-changes-requires : tie.Need-print-changes-requires
-print-changes-requires c κs = c .before .before .before .before .pre .1 (not-false _ (c .before .if1 .left))
+print-changes-requires c κs = c .before .before .before .before .pre .2 (not-false _ (c .before .if1 .left))
 
 write-site-requires : tie.Need-write-site-requires
-write-site-requires c κs = c .before .before .before .before .before .before .pre .0
+write-site-requires c κs =
+    let pre = c .before .before .before .before .before .before .pre in
+    (pre .0, pre .1)
 
 returns-2 : tie.Need-returns-2
 returns-2 c =

@@ -23,8 +23,8 @@ returns-2 c =
     rw (work-file _ _ _ right, told .enum-told .given .1, c .only-said2 .ensures)
     (left-saying (rw (word .word .ensures) at (c .before .say-unread .ensures)), placed-nothing _ 0)
 
-amend-file-requires : tie.Need-amend-file-requires
-amend-file-requires c κs =
+amend-study-requires : tie.Need-amend-study-requires
+amend-study-requires c κs =
     let test = c .before .before .before .before .before .before .before .before in
     sym (test .before .takes .ensures) ∙ not-false _ (test .if1 .left)
 
@@ -34,10 +34,10 @@ returns-3 c =
     let read = front .before .before .before in
     let test = read .before .before in
     let right = sym (test .before .takes .ensures) ∙ not-false _ (test .if1 .left) in
-    rw (work-file _ _ _ right, read .input .given .1) (rw (front .front .ensures .0) at (c .amend-file .ensures))
+    rw (work-file _ _ _ right, read .input .given .1) (rw (front .front .ensures .0) at (c .amend-study .ensures))
 
 pub work-spec : {M : Type 1} → statement M
 work-spec =
     tie.close
     (tie.spec (search needs) (search needs) (search needs) returns (search needs) (search needs) (search needs) (search needs)
-    (search needs) returns-2 (search needs) amend-file-requires returns-3)
+    (search needs) returns-2 (search needs) amend-study-requires returns-3)

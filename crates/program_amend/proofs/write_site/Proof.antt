@@ -4,7 +4,10 @@ use Rattle.program_amend.proofs.write_site.Statement.{statement}
 use Rattle.program_amend.proofs.write_site.Tie as tie
 
 put-requires : tie.Need-put-requires
-put-requires c κs = (c .before .before .before .before .pre, omega arith)
+put-requires c κs =
+    let test = c .before .before in
+    let pre = test .before .before .pre in
+    (pre .0, pre .1 (test .if1 .taken), omega arith)
 
 returns : tie.Need-returns
 returns c = rw (c .before .before .before .if1 .taken) (c .put .ensures)

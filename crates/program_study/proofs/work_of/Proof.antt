@@ -2,7 +2,7 @@
 use Rattle.program_study.specs.Run.{workOf}
 use Rattle.text.specs.Text.{ascii}
 use mathlib.Core.Path.{sym, _∙_}
-use borrow.Author.Tests.{lt-ltb, le-ltb, lt-leb, le-leb, eq-eqb, ne-eqb}
+use borrow.Author.Tests.{lt-ltb, le-ltb, lt-leb, le-leb}
 use borrow.Author.Needs.{needs}
 use Rattle.program_study.proofs.work_of.Statement.{statement}
 use Rattle.program_study.proofs.work_of.Tie as tie
@@ -28,23 +28,34 @@ unfolding workOf ascii
 returns-4 c =
     let second = c .before in
     let first = second .before .before .before in
-    rw (sym (first .before .is-same .ensures) ∙ first .if1 .left, sym (second .before .is-same2 .ensures) ∙ second .if4 .taken, eq-eqb _ _ (c .if5 .taken))
+    rw (sym (first .before .is-same .ensures) ∙ first .if1 .left, sym (second .before .is-same2 .ensures) ∙ second .if4 .taken) (c .of-two .ensures)
 
 returns-5 : tie.Need-returns-5
 unfolding workOf ascii
 returns-5 c =
-    let second = c .before in
+    let third = c .before in
+    let second = third .before .before .before in
     let first = second .before .before .before in
-    rw (sym (first .before .is-same .ensures) ∙ first .if1 .left, sym (second .before .is-same2 .ensures) ∙ second .if4 .taken, ne-eqb _ _ (c .if5 .left))
+    rw (
+      sym (first .before .is-same .ensures) ∙ first .if1 .left,
+      sym (second .before .is-same2 .ensures) ∙ second .if4 .left,
+      sym (third .before .is-same3 .ensures) ∙ third .if5 .taken,
+    )
+    (c .of-two2 .ensures)
 
 returns-6 : tie.Need-returns-6
 unfolding workOf ascii
 returns-6 c =
-    let first = c .before .before .before in
-    rw (sym (first .before .is-same .ensures) ∙ first .if1 .left, sym (c .before .is-same2 .ensures) ∙ c .if4 .left)
+    let second = c .before .before .before in
+    let first = second .before .before .before in
+    rw (
+      sym (first .before .is-same .ensures) ∙ first .if1 .left,
+      sym (second .before .is-same2 .ensures) ∙ second .if4 .left,
+      sym (c .before .is-same3 .ensures) ∙ c .if5 .left,
+    )
 
 pub work-of-spec : {M : Type 1} → statement M
 work-of-spec =
     tie.close
-    (tie.spec (search needs) (search needs) returns (search needs) returns-2 returns-3 (search needs) (search needs) returns-4 returns-5
-    returns-6)
+    (tie.spec (search needs) (search needs) returns (search needs) returns-2 returns-3 (search needs) (search needs) (search needs) returns-4
+    (search needs) (search needs) (search needs) returns-5 returns-6)

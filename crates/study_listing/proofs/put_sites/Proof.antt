@@ -1,5 +1,6 @@
 -- `study_listing::put_sites`. The loop's invariant: the lines of the sites passed stand at the front.
-use Rattle.study_listing.proofs.Laws.{has-site, length-siteLines, no-lines, one-line-more}
+use Rattle.study_listing.proofs.Laws.{length-siteLines, no-lines, one-line-more}
+use Rattle.study_theorems.proofs.Study.{has-site}
 use Rattle.study_listing.proofs.Cells.{lettered}
 use Rattle.study_listing.specs.Listing.{siteLines}
 use Rattle.study.specs.Study.{sitesOf, siteEntries}

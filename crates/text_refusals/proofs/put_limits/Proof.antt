@@ -1,26 +1,17 @@
--- `text_refusals::put_limits`. The least, the most, and the end of the line.
-use Rattle.text.proofs.Laws.{placed-after, placed-three}
+-- `text_refusals::put_limits`. What stands apart, and the range.
+use Rattle.text.proofs.Laws.{placed-after}
 use Rattle.text_refusals.specs.Refusals.{limitsText}
-use Rattle.text.specs.Text.{ascii}
 use borrow.Author.Needs.{needs}
 use native.Mathlib.Omega.{arith}
 use Rattle.text_refusals.proofs.put_limits.Statement.{statement}
 use Rattle.text_refusals.proofs.put_limits.Tie as tie
 
 returns : tie.Need-returns
-unfolding limitsText ascii
+unfolding limitsText
 returns c =
-    let fourth = c .before .before in
-    let third = fourth .before .before .before .before in
-    let second = third .before .before .before .before in
-    let first = second .before .before .before .before .before in
-    let limits = first .before .before .limits .ensures in
-    let least = rw (limits .0) at (first .put-value .ensures .0) in
-    let most = rw (limits .1) at (third .put-value2 .ensures .0) in
-    let both = placed-three least (second .put-bytes .ensures) most (omega arith) in
-    (placed-after both (fourth .put-byte .ensures) (omega arith), omega arith)
+    let second = c .before .before in
+    let first = second .before .before .before .before in
+    (placed-after (first .put-apart .ensures .0) (second .put-span .ensures .0) (omega arith), omega arith)
 
 pub put-limits-spec : {M : Type 1} → statement M
-put-limits-spec =
-    tie.close
-    (tie.spec (search needs) (search needs) (search needs) (search needs) (search needs) (search needs) (search needs) returns)
+put-limits-spec = tie.close (tie.spec (search needs) (search needs) (search needs) returns)

@@ -37,8 +37,8 @@ sub-end-2 c =
     let test = c .before .before in
     from-end-some _ _ _ (sym (test .before .from-end .ensures) ∙ test .if1 .left) (omega arith)
 
-slice-aggregate-seconds-of : tie.Need-slice-aggregate-seconds-of
-slice-aggregate-seconds-of c = sym (length-take-le _ _ (omega arith))
+slice-aggregate-decimal-of : tie.Need-slice-aggregate-decimal-of
+slice-aggregate-decimal-of c = sym (length-take-le _ _ (omega arith))
 
 returns-3 : tie.Need-returns-3
 unfolding timeOf
@@ -51,10 +51,10 @@ returns-3 c =
       ← second .from-end2 .ensures,
       ne-eqb _ _ (c .before .before .if2 .left),
     )
-    (c .seconds-of .ensures)
+    (c .decimal-of .ensures)
 
 pub time-of-spec : {M : Type 1} → statement M
 time-of-spec =
     tie.close
     (tie.spec (search needs) returns (search needs) sub-end slice-aggregate-number-of (search needs) returns-2 sub-end-2
-    slice-aggregate-seconds-of (search needs) returns-3)
+    slice-aggregate-decimal-of (search needs) returns-3)

@@ -15,6 +15,7 @@ pub fn file(rng: &mut Rng, tally: &mut Tally) -> Result<(), String> {
     let first = rules::study_check(file.part());
     let second = library::study_check(file.part());
     tally.answered("study check", first);
+    tally.study(&contents);
     let mut ours = Lent::new(rng, &[0]);
     let mut theirs = ours.clone();
     ours.part_mut()[0] = rules::study_count(file.part());
@@ -39,6 +40,7 @@ pub fn site(rng: &mut Rng, tally: &mut Tally) -> Result<(), String> {
     let first = rules::study_site(file.part(), site, ours.part_mut());
     let second = library::study_site(file.part(), site, theirs.part_mut());
     tally.answered("study site", first);
+    tally.study(&contents);
     let input = || format!("site {site} of {contents:02x?}\ninto a list of {length}");
     compare(&input, (first, &ours), (second, &theirs))?;
     unread(&kept, &file, "study site")
@@ -47,7 +49,7 @@ pub fn site(rng: &mut Rng, tally: &mut Tally) -> Result<(), String> {
 /// Entries to write: whole sites, too many, or a few numbers more or less.
 fn to_write(rng: &mut Rng) -> Vec<u32> {
     let count = match rng.once_in(20) {
-        true => rng.pick(&[181, 182, 200]),
+        true => rng.pick(&[166, 167, 180, 200]),
         false => generate::any_count(rng),
     };
     let mut entries = generate::sites(rng, count);
@@ -96,6 +98,7 @@ pub fn list(rng: &mut Rng, tally: &mut Tally) -> Result<(), String> {
     let length = &mut their_length.part_mut()[0];
     let second = library::study_list(file.part(), theirs.part_mut(), length);
     tally.answered("study list", first);
+    tally.study(&contents);
     let input = || format!("listing of {contents:02x?}\ninto {size} bytes");
     compare(&input, (first, &ours), (second, &theirs))?;
     compare(&input, (first, &our_length), (second, &their_length))?;

@@ -5,7 +5,7 @@ use super::{acceptable, any_number, any_numbers, nearly, Entries, Rng};
 use crate::diamond::{
     self, Record, BEST, CELLS, EAST, PLANS, RECORD, STORAGES, STORED, TRAVEL_TIME,
 };
-use crate::rules::{ACCEPTED, BLANK, CYCLE};
+use crate::rules::{approach_entry, movement_entry, ACCEPTED, BLANK, CYCLE};
 
 // ---------------------------------------------------------------- acceptable records
 
@@ -94,6 +94,10 @@ fn lengthen(record: &mut Record, movement: usize, time: u32, by: i64) {
     }
 }
 
+/// The lost times of what enters the west junction and the east one.
+const LOST_IN_WEST: usize = movement_entry(0, 1, 3);
+const LOST_IN_EAST: usize = EAST + movement_entry(1, 1, 3);
+
 /// Moves one time so that the plans take equally long, or 1 ms apart, where one can.
 fn to_tie(rng: &mut Rng, record: &mut Record) {
     let Some(cells) = roomy(record) else {
@@ -106,10 +110,10 @@ fn to_tie(rng: &mut Rng, record: &mut Record) {
         let mut moved = *record;
         match way {
             0 => shift(&mut moved, TRAVEL_TIME, by / 2, 60_000),
-            1 => lengthen(&mut moved, 15, cells[2], by),
+            1 => lengthen(&mut moved, movement_entry(1, 0, 0), cells[2], by),
             2 => lengthen(&mut moved, EAST, cells[9], by),
-            3 => shift(&mut moved, 5 + 3, -by, 20_000),
-            4 => shift(&mut moved, EAST + 20 + 3, -by, 20_000),
+            3 => shift(&mut moved, LOST_IN_WEST, -by, 20_000),
+            4 => shift(&mut moved, LOST_IN_EAST, -by, 20_000),
             _ => shift(&mut moved, TRAVEL_TIME, -by / 4, 60_000),
         }
         if roomy(&moved).is_some_and(|cells| apart(&cells).abs() <= 1) {
@@ -128,7 +132,8 @@ fn to_letter_end(rng: &mut Rng, record: &mut Record) {
     let end = rng.pick(&[550, 640, 730, 820, 910, 1_000, 1_090]) * record[CYCLE];
     let wanted = i64::from(end) + i64::from(rng.within(0, 2)) - 1;
     let change = wanted - i64::from(cells[BEST]);
-    let entering = [5 + 3, EAST + 20 + 3, 45 + 3, EAST + 30 + 3];
+    let ramps = [movement_entry(3, 0, 3), EAST + movement_entry(2, 0, 3)];
+    let entering = [LOST_IN_WEST, LOST_IN_EAST, ramps[0], ramps[1]];
     shift(record, rng.pick(&entering), change, 20_000);
 }
 
@@ -136,16 +141,12 @@ fn to_letter_end(rng: &mut Rng, record: &mut Record) {
 fn one_sided(rng: &mut Rng, record: &mut Record) {
     let kept = [0, 3];
     for m in (0..24).filter(|m| !(kept.contains(&(m / 3)) && m % 3 > 0)) {
-        let place = if m < 12 { 5 * m } else { EAST + 5 * (m - 12) };
-        record[place + 1] = 0;
+        let half = if m < 12 { 0 } else { EAST };
+        record[half + movement_entry(0, m % 12, 1)] = 0;
     }
     for a in 0..8 {
-        let own = if a < 4 {
-            60 + 5 * a
-        } else {
-            EAST + 60 + 5 * (a - 4)
-        };
-        record[own + 1] = 0;
+        let half = if a < 4 { 0 } else { EAST };
+        record[half + approach_entry(a % 4, 1)] = 0;
     }
     record[TRAVEL_TIME] = rng.pick(&[0, 0, 1, 5_000]);
 }
@@ -220,7 +221,9 @@ fn nearly_record(rng: &mut Rng) -> Record {
 
 /// A length around those that matter.
 pub fn any_length(rng: &mut Rng) -> usize {
-    let corners = [0, 1, 28, 29, 30, 81, 162, 165, 166, 167, 168, 209, 334];
+    let corners = [
+        0, 1, 28, 29, 30, 93, 167, 186, 189, 190, 191, 192, 221, 382,
+    ];
     match rng.once_in(4) {
         true => rng.below(400),
         false => rng.pick(&corners),

@@ -4,7 +4,8 @@
 use super::{acceptable, amendment, any_entries, any_length, any_number, any_numbers};
 use super::{nearly, usual, Rng};
 use crate::open::{BLOCKS, FREE, PLACES};
-use crate::rules::{self, kind_of, CELLS, ENTRIES, NOLANE, RANGE, SHARED};
+use crate::rules::{self, approach_entry, kind_of, movement_entry};
+use crate::rules::{CELLS, ENTRIES, NOLANE, RANGE, SHARED};
 
 /// Owners, blocks, and the numbers of those who work in the study.
 pub struct Study {
@@ -36,7 +37,7 @@ pub struct Step {
 fn offices(rng: &mut Rng) -> Vec<u32> {
     let number = |rng: &mut Rng| match rng.below(4) {
         0 => any_number(rng).max(1),
-        1 => rng.pick(&[u32::MAX, u32::MAX - 1, 1 << 31, 180]),
+        1 => rng.pick(&[u32::MAX, u32::MAX - 1, 1 << 31, 165]),
         _ => rng.within(1, 4),
     };
     (0..rng.within(2, 5)).map(|_| number(rng)).collect()
@@ -134,8 +135,10 @@ fn own_site(rng: &mut Rng, owners: &[u32], office: u32) -> Option<u32> {
 
 /// Mostly a site of the office's own, else any place, or one that there is not.
 fn any_site(rng: &mut Rng, owners: &[u32], office: u32) -> u32 {
-    // 81 and 324 times the last two are 32 past 2³².
-    let beyond = [180, 181, 14_580, 1 << 31, u32::MAX, 53_024_288, 13_256_072];
+    // 93 and 372 times the last two are less than a block past 2³².
+    let beyond = [
+        165, 166, 180, 15_345, 1 << 31, u32::MAX, 46_182_445, 11_545_612,
+    ];
     match rng.below(20) {
         0 => any_number(rng),
         1 => rng.pick(&beyond),
@@ -149,8 +152,8 @@ fn mending(rng: &mut Rng, block: &[u32]) -> Option<(u32, u32)> {
     let answer = rules::judge(block);
     match answer.number {
         RANGE => Some((answer.place, usual(rng, kind_of(answer.place as usize)))),
-        SHARED => Some((60 + 5 * answer.place, 0)),
-        NOLANE => Some((5 * answer.place + 1, 0)),
+        SHARED => Some((approach_entry(answer.place as usize, 0) as u32, 0)),
+        NOLANE => Some((movement_entry(0, answer.place as usize, 1) as u32, 0)),
         _ => None,
     }
 }

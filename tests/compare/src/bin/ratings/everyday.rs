@@ -1,7 +1,7 @@
 //! Junctions as a planner types them: everyday lanes, counts and times, and such with a bus gate.
 
 use compare::generate::{Entries, Rng};
-use compare::rules::{CYCLE, ENTRIES};
+use compare::rules::{approach_entry, movement_entry, CYCLE, ENTRIES};
 
 /// Lanes of left, through and right, and the shared flag; those met more often stand here more often.
 const SHAPES: [[u32; 4]; 18] = [
@@ -91,21 +91,21 @@ fn approach(rng: &mut Rng, e: &mut Entries, a: usize, town: &Town, lanes: [u32; 
     for turn in 0..3 {
         let least = if turn == 0 { least_left } else { town.least };
         let entries = [lanes[turn], volumes[turn], town.ideal, town.lost, least];
-        e[15 * a + 5 * turn..][..5].copy_from_slice(&entries);
+        e[movement_entry(a, turn, 0)..][..5].copy_from_slice(&entries);
     }
     let walkers = if town.walked { rng.within(2, 250) } else { 0 };
     let button = u32::from(!rng.once_in(4));
     let free = u32::from(lanes[2] > 0 && rng.once_in(5));
     let walk = 500 * rng.within(14, 50);
-    e[60 + 5 * a..][..5].copy_from_slice(&[lanes[3], walkers, button, walk, free]);
+    e[approach_entry(a, 0)..][..5].copy_from_slice(&[lanes[3], walkers, button, walk, free]);
 }
 
 /// Nobody drives here; people may still cross.
 fn close(e: &mut Entries, a: usize) {
     for turn in 0..3 {
-        e[15 * a + 5 * turn..][..2].fill(0);
+        e[movement_entry(a, turn, 0)..][..2].fill(0);
     }
-    e[60 + 5 * a] = 0;
+    e[approach_entry(a, 0)] = 0;
 }
 
 /// Buses and a few others go through a gate.
@@ -119,8 +119,8 @@ fn put_gate(rng: &mut Rng, e: &mut Entries, a: usize, town: &Town) {
         rng.within(0, 50),
     ];
     for (turn, volume) in volumes.into_iter().enumerate() {
-        e[15 * a + 5 * turn + 1] = volume;
-        e[15 * a + 5 * turn + 2] = GATE_IDEAL;
+        e[movement_entry(a, turn, 1)] = volume;
+        e[movement_entry(a, turn, 2)] = GATE_IDEAL;
     }
 }
 

@@ -1,6 +1,7 @@
 //! What the unit of the flows does to the ratings. Each junction is rated with flows in whole vehicles per hour, as the rules read
 //! before, and in tenths, as they read now: `ratings N [SEED]` for N everyday junctions, N with a bus gate and N full of corners, and
-//! `ratings search N [SEED]` to look for the largest falls and rises, N steps for each. No library is needed.
+//! `ratings search N [SEED]` to look for the largest falls and rises, N steps for each. Lane factors are the table's, as they were
+//! when the unit changed. No library is needed.
 
 #![forbid(unsafe_code)]
 
@@ -8,7 +9,7 @@ mod everyday;
 mod measure;
 mod search;
 
-use compare::generate::{acceptable, Entries, Rng};
+use compare::generate::{by_table, Entries, Rng};
 use measure::{Rated, Set};
 use std::process::ExitCode;
 
@@ -19,7 +20,7 @@ type Make = fn(&mut Rng) -> Entries;
 const SETS: [(&str, Make); 3] = [
     ("everyday junctions", everyday::junction),
     ("everyday junctions with a bus gate", everyday::gated),
-    ("junctions full of corners", acceptable),
+    ("junctions full of corners", by_table),
 ];
 
 /// So many junctions of a kind, rated.

@@ -2,8 +2,9 @@
 //! do no worse, from many starts. What is found is made plain, so that it can be worked by hand.
 
 use crate::measure::Rated;
-use compare::generate::{acceptable, picks, usual, Entries, Rng, Sheet};
-use compare::rules::{judge, kind_of, ACCEPTED, BLANK, CYCLE, ENTRIES, LAST, LIMITS, PAIRS};
+use compare::generate::{by_table, picks, usual, Entries, Rng, Sheet};
+use compare::rules::{approach_entry, judge, kind_of, movement_entry, place_today, ACCEPTED, BLANK};
+use compare::rules::{CYCLE, ENTRIES, KINDS, LAST, LIMITS, OLD_ENTRIES, PAIRS};
 
 /// A kind of junction, and whether the ICU is to rise or to fall.
 struct Goal {
@@ -107,8 +108,9 @@ fn nudged(rng: &mut Rng, number: u32, kind: usize) -> u32 {
 
 /// One approach of another junction in place of its own.
 fn transplant(rng: &mut Rng, e: &mut Entries) {
-    let (other, a) = (acceptable(rng), rng.below(4));
-    for range in [15 * a..15 * a + 15, 60 + 5 * a..65 + 5 * a] {
+    let (other, a) = (by_table(rng), rng.below(4));
+    let movements = movement_entry(a, 0, 0)..movement_entry(a + 1, 0, 0);
+    for range in [movements, approach_entry(a, 0)..approach_entry(a + 1, 0)] {
         e[range.clone()].copy_from_slice(&other[range]);
     }
 }
@@ -124,8 +126,8 @@ fn stepped(rng: &mut Rng, e: &Entries) -> Entries {
             true => CYCLE,
             // Lanes, volumes and flows more often than times.
             false => match rng.once_in(3) {
-                true => rng.below(ENTRIES),
-                false => 5 * rng.below(12) + rng.below(3),
+                true => place_today(rng.below(OLD_ENTRIES)),
+                false => movement_entry(0, rng.below(12), rng.below(3)),
             },
         };
         let kind = kind_of(entry);
@@ -143,7 +145,7 @@ fn climb(rng: &mut Rng, goal: &Goal, steps: u64) -> Option<Entries> {
     let (mut at, mut reached, mut stuck) = ([0; ENTRIES], i64::MIN, PATIENCE);
     for _ in 0..steps {
         if stuck >= PATIENCE {
-            at = acceptable(rng);
+            at = by_table(rng);
             reached = goal.score(&at).unwrap_or(i64::MIN);
             stuck = 0;
         }
@@ -166,12 +168,13 @@ fn climb(rng: &mut Rng, goal: &Goal, steps: u64) -> Option<Entries> {
 // ---------------------------------------------------------------- what is found
 
 /// Plain values of the kinds, the plainest first.
-const PLAIN: [&[u32]; 11] = [
+const PLAIN: [&[u32]; KINDS] = [
     &[0, 1, 2, 3],
     &[0, 50, 100, 200, 400, 1_000, 9_999],
     &[1_900, 1_000],
     &[0, 4_000],
     &[0, 4_000],
+    &[0],
     &[0],
     &[0],
     &[0],
@@ -205,7 +208,7 @@ fn print_entries(e: &Entries) {
     println!("  cycle {} s; lanes, volume, ideal flow, lost time, minimum green of left, through, right; shared, pedestrians, button, time, free", e[CYCLE]);
     for (a, name) in ["EB", "WB", "NB", "SB"].into_iter().enumerate() {
         let turns = [0, 1, 2].map(|turn| {
-            let at = 15 * a + 5 * turn;
+            let at = movement_entry(a, turn, 0);
             format!(
                 "{} {:>4} {} {:>5} {:>5}",
                 e[at],
@@ -215,7 +218,7 @@ fn print_entries(e: &Entries) {
                 e[at + 4]
             )
         });
-        let [shared, walkers, button, walk, free] = [0, 1, 2, 3, 4].map(|j| e[60 + 5 * a + j]);
+        let [shared, walkers, button, walk, free] = [0, 1, 2, 3, 4].map(|j| e[approach_entry(a, j)]);
         println!(
             "  {name}  {}  |  {shared} {walkers:>4} {button} {walk:>5} {free}",
             turns.join("  |  ")

@@ -1,19 +1,19 @@
--- `text_times::seconds_of`. Whole seconds, or those before the point and the thousandths past it.
-use Rattle.text_times.proofs.Laws.{seconds-whole, seconds-parted}
+-- `text_times::decimal_of`. Whole ones, or those before the point and the thousandths past it.
+use Rattle.text_times.proofs.Laws.{decimal-whole, decimal-parted}
 use Prim.Native.Nat.{_+_, _-_}
 use lib.ListN.{length, drop, length-drop}
 use lib.Seq.{length-take-le, take-all}
 use mathlib.Core.Path.{sym, _∙_}
 use native.Mathlib.Omega.{arith}
 use borrow.Author.Needs.{needs}
-use Rattle.text_times.proofs.seconds_of.Statement.{statement}
-use Rattle.text_times.proofs.seconds_of.Tie as tie
+use Rattle.text_times.proofs.decimal_of.Statement.{statement}
+use Rattle.text_times.proofs.decimal_of.Tie as tie
 
 returns : tie.Need-returns
 returns c =
     let point = c .before .before .before in
     let word = point .before .before .args .word .now in
-    c .together .ensures ∙ rw (c .before .number-of .ensures) (sym (seconds-whole word _ (point .point-in .ensures .0) (c .before .before .if1 .taken)))
+    c .together .ensures ∙ rw (c .before .number-of .ensures) (sym (decimal-whole word _ (point .point-in .ensures .0) (c .before .before .if1 .taken)))
 
 slice-aggregate-number-of : tie.Need-slice-aggregate-number-of
 slice-aggregate-number-of c = sym (length-take-le _ _ (omega arith))
@@ -27,10 +27,10 @@ returns-2 c =
     let rest = take-all (length word - past) (drop past word) (omega (arith, length-drop past word)) in
     c .together2 .ensures
     ∙ rw (whole .number-of2 .ensures, c .before .thousandths .ensures, rest)
-    (sym (seconds-parted word _ (point .point-in .ensures .0) (omega (arith, point .point-in .ensures .1))))
+    (sym (decimal-parted word _ (point .point-in .ensures .0) (omega (arith, point .point-in .ensures .1))))
 
-pub seconds-of-spec : {M : Type 1} → statement M
-seconds-of-spec =
+pub decimal-of-spec : {M : Type 1} → statement M
+decimal-of-spec =
     tie.close
     (tie.spec (search needs) (search needs) (search needs) returns (search needs) slice-aggregate-number-of
     (search needs) (search needs) (search needs) (search needs) (search needs) (search needs) returns-2)
