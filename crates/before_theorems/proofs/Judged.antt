@@ -1,16 +1,16 @@
 -- Entries that were acceptable before are acceptable widened: each stands in its kind's range, the measured factors are 0, and lanes, volumes
 -- and shared lanes are the same numbers.
-use mathlib.Core.Path.{_≡_, refl, sym, ap, _∙_}
+use mathlib.Core.Path.{_≡_, refl, ap, _∙_}
 use mathlib.Core.Bool.{Bool, true, false, cond, not}
 use mathlib.Core.List.{List}
-use Prim.Native.Nat.{ℕ, _+_, _-_, _*_, _/_, _%_, _≤_, _<_}
+use Prim.Native.Nat.{ℕ, _+_, _-_, _*_, _/_, _%_, _<_}
 use lib.Dec.{eqb, ltb, lit<}
 use lib.ListN.{length, getD}
 use borrow.Author.Tests.{lt-ltb, le-ltb, eq-eqb, not-false}
 use native.Mathlib.Decide.{decLt}
 use native.Mathlib.Nat.{zero-add}
 use native.Mathlib.Omega.{arith}
-use Rattle.answers.specs.Answers.{_then_, refuse-if, inTurn, lowest}
+use Rattle.answers.specs.Answers.{refuse-if, lowest}
 use Rattle.answers.specs.declared.Refusal.{Refusal}
 use Rattle.answers.specs.declared.Refusal.the-variants.{Size, Range, Shared, NoLane}
 use Rattle.answers.specs.declared.Answer.the-variants.{Accepted}
@@ -52,11 +52,11 @@ kind-kept k =
 
 module _ (e : List ℕ) where
   -- an entry of a movement, and what stands past them
-  own : (m j : ℕ) → m < movementCount → j < movementBefore → movementEntry (widened e) m j ≡ ofMovement e m j
+  pub own : (m j : ℕ) → m < movementCount → j < movementBefore → movementEntry (widened e) m j ≡ ofMovement e m j
   unfolding movementEntry
   own = of-movement e
 
-  side : (a j : ℕ) → a < approachCount → j < approachEntries → approachEntry (widened e) a j ≡ ofApproach e a j
+  pub side : (a j : ℕ) → a < approachCount → j < approachEntries → approachEntry (widened e) a j ≡ ofApproach e a j
   unfolding approachEntry
   side a j few h =
       let place : approachPlace a j ≡ approachesFrom + (approachEntries * a + j) = omega arith in

@@ -2,25 +2,26 @@
 -- cells past the entries.
 use mathlib.Core.Path.{_≡_, sym, ap, _∙_}
 use mathlib.Core.List.{List, _++_, append-assoc}
-use Prim.Native.Nat.{ℕ, _+_, _-_, _*_, _<_}
+use Prim.Native.Nat.{ℕ, _-_, _<_}
 use lib.Dec.{lit<}
-use lib.ListN.{getD, drop}
+use lib.ListN.{drop}
 use lib.Seq.{drop-at}
 use borrow.Author.Tests.{eq-eqb}
 use native.Mathlib.Omega.{arith}
-use Rattle.layout.specs.Entries.{approachCount, movementCount, approachesFrom, approachEntries, approachPlace, cycleEntry, entryCount, left, through, right}
+use Rattle.layout.specs.Entries.{approachCount, movementCount, approachesFrom, approachEntries, cycleEntry, entryCount, left, through, right}
 use Rattle.layout.specs.Entries.{EB, WB, NB, SB, lanesNo, volumeNo, idealNo, lostNo, greenNo, sharedNo, walkersNo, buttonNo, crossingNo, freeNo}
 use Rattle.entries.specs.Layout.{cycle, movementEntry, approachEntry}
 use Rattle.kinds.specs.declared.Group.the-variants.{Left, Through}
 use Rattle.line_factors.specs.Factors.{factorOf}
 use Rattle.study_before.specs.Before.{movementBefore, widened}
-use Rattle.study_before.proofs.Laws.{length-widened, of-movement, of-factor, past-movements}
+use Rattle.study_before.proofs.Laws.{length-widened, of-factor, past-movements}
 use Rattle.procedure.specs.declared.Approach.{Approach}
 use Rattle.procedure.specs.Approach.{measured, readMovement, readApproach}
 use Rattle.procedure.specs.Lines.{flowOf, factor, flow, sST, sSL}
 use Rattle.procedure.specs.Sheet.{linesAt, pairAt, rightAt, lastAt, sheet}
 use Rattle.procedure.proofs.Reading.{is-movement, is-approach}
-use Rattle.before_theorems.specs.Before.{movementThen, approachThen, cycleThen, ofApproach, ByTheTable, cellsBy, cellsThen}
+use Rattle.before_theorems.specs.Before.{ofMovement, movementThen, ofApproach, approachThen, cycleThen, ByTheTable, cellsBy, cellsThen}
+use Rattle.before_theorems.proofs.Judged.{own, side}
 
 -- a sheet is its entries and those cells
 pub sheet-cells : (e : List ℕ) → sheet e ≡ e ++ cellsBy (readApproach e) (cycle e)
@@ -32,16 +33,14 @@ module _ (e : List ℕ) where
   movement-read : (m : ℕ) → m < movementCount → movementThen e m ≡ readMovement (widened e) m
   unfolding movementThen movementEntry
   movement-read m few =
-      let had : (j : ℕ) → j < movementBefore → getD e (movementBefore * m + j) 0 ≡ movementEntry (widened e) m j = λ j h. sym (of-movement e m j few h) in
+      let had : (j : ℕ) → j < movementBefore → ofMovement e m j ≡ movementEntry (widened e) m j = λ j h. sym (own e m j few h) in
       is-movement (widened e) m (movementThen e m) (had lanesNo (lit< tt)) (had volumeNo (lit< tt)) (had idealNo (lit< tt)) (had lostNo (lit< tt))
       (had greenNo (lit< tt)) (sym (of-factor e m few))
 
   approach-read : (k : ℕ) → k < approachCount → approachThen e k ≡ readApproach (widened e) k
   unfolding approachThen approachEntry
   approach-read k few =
-      let had : (j : ℕ) → j < approachEntries → ofApproach e k j ≡ approachEntry (widened e) k j = λ j h.
-      let place : approachPlace k j ≡ approachesFrom + (approachEntries * k + j) = omega arith in
-      sym (ap (λ p. getD (widened e) p 0) place ∙ past-movements e (approachEntries * k + j) (omega arith)) in
+      let had : (j : ℕ) → j < approachEntries → ofApproach e k j ≡ approachEntry (widened e) k j = λ j h. sym (side e k j few h) in
       is-approach (widened e) k (approachThen e k) (movement-read (left k) (omega arith)) (movement-read (through k) (omega arith))
       (movement-read (right k) (omega arith)) (had sharedNo (lit< tt)) (had walkersNo (lit< tt)) (had buttonNo (lit< tt)) (had crossingNo (lit< tt))
       (had freeNo (lit< tt))

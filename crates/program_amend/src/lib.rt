@@ -259,7 +259,8 @@ fn say_old(name: &[u8], said: &mut [u8; SAID_BYTES]) -> usize
     program_changes::put_sentence(said, 0, &sentence, size)
 }
 
-// The same, unless the changed study is to be kept and the file is one of before, which is not written.
+// Changes entries of the site that a word names, unless the changed study is to be kept and the file is one of before, which is not
+// written.
 fn amend_study(
     file: &[u8],
     words: &[u8],
