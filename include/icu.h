@@ -1,7 +1,7 @@
 /*
  * Rates the capacity of a road junction by Intersection Capacity Utilization 2003:
- * fills a worksheet, amends it, rates a diamond interchange, keeps the sites of several offices apart in
- * one open study, and reads, writes and lists study files.
+ * fills a worksheet, amends it, does both for a single point interchange, rates a diamond interchange,
+ * keeps the sites of several offices apart in one open study, and reads, writes and lists study files.
  *
  * All numbers are whole. Volumes and the ideal flow of a lane, which are entries, are vehicles per hour;
  * the flows that the lines give are tenths of a vehicle per hour (18050 is 1,805.0 an hour); times are
@@ -39,10 +39,11 @@ extern "C" {
  * entry, its measured lane factor, so entries, sheets, records and open studies have other lengths and
  * places. A sheet, a record or an open study of an earlier version is to be made anew; its study files
  * are read. Entries without measured factors give what they gave. Study files are written in a new kind,
- * which earlier versions refuse with ICU_FILE at 0. */
+ * which earlier versions refuse with ICU_FILE at 0. 3.1: icu_point_start, icu_point_fill,
+ * icu_point_amend; all other calls give what they gave. */
 #define ICU2003_VERSION_MAJOR 3
-#define ICU2003_VERSION_MINOR 0
-#define ICU2003_VERSION "3.0"
+#define ICU2003_VERSION_MINOR 1
+#define ICU2003_VERSION "3.1"
 
 /* ------------------------------------------------------------------ answers */
 
@@ -57,8 +58,8 @@ enum {
     ICU_SIZE = 1,   /* a list of the wrong length; place 0 */
     ICU_ENTRY = 2,  /* an amendment of an entry above 92; place 0 */
     ICU_RANGE = 3,  /* an entry outside its range; place: the lowest such entry, 0 to 92 */
-    ICU_SHARED = 4, /* a shared lane with left lanes or without through lanes;
-                       place: the lowest such approach, 0 to 3 */
+    ICU_SHARED = 4, /* a shared lane with left lanes or without through lanes, or any shared lane of
+                       a single point; place: the lowest such approach, 0 to 3 */
     ICU_NOLANE = 5, /* volume without a lane to use; place: the lowest such movement, 0 to 11 */
     ICU_FILE = 6,   /* a study file badly laid out, a site it lacks, or too little room;
                        place: see the calls */
@@ -179,6 +180,57 @@ IcuAnswer icu_fill(const uint32_t *entries, size_t entries_len, uint32_t *sheet,
  * The sheet stays as it was on a refusal.
  */
 IcuAnswer icu_amend(uint32_t *sheet, size_t len, uint32_t entry, uint32_t value);
+
+/* ------------------------------------------------------------------ single point interchanges */
+
+/*
+ * All lefts of a single point interchange turn at one point and are protected: there is no other phasing,
+ * and no lane is shared. Its sheet is worked out of the same 93 entries, and its lines are those of a
+ * junction, the first 18 of them. Study files and open studies may keep its entries, but list and read
+ * every site as a junction.
+ */
+#define ICU_POINT_CELLS 175
+
+/* Cells 0 to 92 are the entries. Then the 18 lines of each approach, k from 1: ICU_LEFT_VOLUME to
+ * ICU_RIGHT_ADJUSTED. Without a shared lane line 8 is line 6 and line 9 is line 5. */
+#define ICU_POINT_LINE(a, k) (93 + 18 * (a) + ((k) - 1))
+
+/* The protected total of each pair of approaches, ms. */
+#define ICU_POINT_EB_WB 165
+#define ICU_POINT_NB_SB 166
+
+/* The last eight cells. A fill leaves ICU_BLANK in no cell. */
+#define ICU_POINT_RIGHT_TOTAL(a) (167 + (a)) /* ms, by approach */
+#define ICU_POINT_COMBINED 171               /* the two totals added, ms */
+#define ICU_POINT_REQUIRED 172               /* the largest of combined and the right totals, ms */
+#define ICU_POINT_ICU 173                    /* tenths of a percent */
+#define ICU_POINT_LETTER 174                 /* 0 for A to 7 for H */
+
+/*
+ * Writes the 93 entries that a single point starts from: ideal flow 2,000 vehicles per hour; lost time
+ * 8,000 ms for lefts, 6,000 ms for throughs and rights; cycle 120 s; all else 0, lanes and minimum greens
+ * too. They are acceptable and fill to an ICU of 0, letter A.
+ * Refuses ICU_SIZE (place 0) where len is not 93. The list stays as it was on a refusal.
+ */
+IcuAnswer icu_point_start(uint32_t *entries, size_t len);
+
+/*
+ * Judges the entries and fills the sheet of a single point from them: all 175 cells.
+ * Refuses ICU_SIZE (place 0) where entries_len is not 93 or sheet_len not 175, then ICU_RANGE,
+ * ICU_SHARED of any shared lane, ICU_NOLANE. The sheet stays as it was on a refusal; the entries always
+ * do.
+ */
+IcuAnswer icu_point_fill(const uint32_t *entries, size_t entries_len, uint32_t *sheet,
+                         size_t sheet_len);
+
+/*
+ * Amends one entry of a single point's sheet as icu_amend does of a junction's: it reaches the same cells,
+ * as far as this sheet has them, of its pair the one total.
+ * Refuses ICU_SIZE (place 0) where len is not 175, ICU_ENTRY (place 0) where entry is above 92, then
+ * ICU_RANGE, ICU_SHARED of any shared lane, ICU_NOLANE of all the entries as they would stand.
+ * The sheet stays as it was on a refusal.
+ */
+IcuAnswer icu_point_amend(uint32_t *sheet, size_t len, uint32_t entry, uint32_t value);
 
 /* ------------------------------------------------------------------ diamond interchanges */
 

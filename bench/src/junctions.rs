@@ -2,12 +2,11 @@
 
 use compare::diamond::{self, Record, EAST, STORAGES};
 use compare::generate::{Entries, Rng};
+use compare::point;
 use compare::rules::{
-    self, approach_entry, movement_entry, ACCEPTED, BY_TABLE, CELLS, CYCLE, ENTRIES, MOVEMENT,
+    self, approach_entry, movement_entry, Answer, ACCEPTED, BY_TABLE, CYCLE, ENTRIES, MOVEMENT,
     OLD_ENTRIES,
 };
-
-pub type Sheet = [u32; CELLS];
 
 /// Lanes of left, through, right and the shared flag.
 const SHAPES: [[u32; 4]; 8] = [
@@ -66,12 +65,28 @@ pub fn mix(rng: &mut Rng, count: usize, walkers: bool) -> Vec<Entries> {
     mix
 }
 
-pub fn sheets(junctions: &[Entries]) -> Vec<Sheet> {
-    let mut sheets = vec![[0; CELLS]; junctions.len()];
+/// The sheets of N cells that a call fills from them.
+pub fn sheets<const N: usize>(
+    junctions: &[Entries],
+    fill: fn(&[u32], &mut [u32]) -> Answer,
+) -> Vec<[u32; N]> {
+    let mut sheets = vec![[0; N]; junctions.len()];
     for (e, sheet) in junctions.iter().zip(&mut sheets) {
-        rules::fill(e, sheet);
+        fill(e, sheet);
     }
     sheets
+}
+
+/// The junctions as single points, which share no lane: lefts that shared one have a lane of their own.
+pub fn points(junctions: &[Entries]) -> Vec<Entries> {
+    let mut points = junctions.to_vec();
+    for e in &mut points {
+        for a in 0..4 {
+            e[movement_entry(a, 0, 0)] += std::mem::take(&mut e[approach_entry(a, 0)]);
+        }
+    }
+    assert!(points.iter().all(|e| point::judge(e) == ACCEPTED));
+    points
 }
 
 /// The entries of a junction as a study file of before holds them, without its lane factors.

@@ -5,13 +5,13 @@
 mod decay;
 mod junctions;
 mod open;
+mod point;
 mod steps;
 mod timing;
 
 use compare::diamond::{self, Record};
 use compare::generate::{laid_out, laid_out_before, Entries, Rng};
 use compare::rules::{self, Answer, CELLS, OLD_SITES, SITES};
-use junctions::Sheet;
 use std::hint::black_box;
 use steps::{Step, NAMES};
 use timing::{Times, Work};
@@ -60,38 +60,56 @@ fn row(name: &str, times: Times) {
     println!("{name:<36}{library:>12}{:>12.1}{ratio:>9}", times.rust);
 }
 
-fn filling(call: Fill, mix: &[Entries]) -> Work<'_> {
-    let mut sheet = [0; CELLS];
+/// Fills a sheet of N cells from each.
+fn filling<const N: usize>(call: Fill, mix: &[Entries]) -> Work<'_> {
+    let mut sheet = [0; N];
     Box::new(move || {
         let filled = |e: &&Entries| call(black_box(*e), black_box(&mut sheet)) == rules::ACCEPTED;
         mix.iter().filter(filled).count()
     })
 }
 
-fn time_fill(name: &str, mix: &[Entries], rounds: usize) {
-    let library = FILL.map(|call| filling(call, mix));
-    row(
-        name,
-        timing::both(library, filling(rules::fill, mix), mix.len(), rounds),
-    );
+/// The calls for a sheet of N cells: the library's, where they are built in, and the plain Rust's.
+struct Calls<const N: usize> {
+    fill: (Option<Fill>, Fill),
+    amend: (Option<Amend>, Amend),
 }
 
-fn amending<'a>(call: Amend, sheets: &'a mut [Sheet], steps: &'a [Step]) -> Work<'a> {
+const JUNCTION: Calls<CELLS> = Calls {
+    fill: (FILL, rules::fill),
+    amend: (AMEND, rules::amend),
+};
+
+fn amending<'a, const N: usize>(
+    call: Amend,
+    sheets: &'a mut [[u32; N]],
+    steps: &'a [Step],
+) -> Work<'a> {
     Box::new(move || steps::take(sheets, black_box(steps), call))
 }
 
-fn time_amend(name: &str, mix: &[Entries], steps: &[Step], rounds: usize) {
-    let (mut theirs, mut ours) = (junctions::sheets(mix), junctions::sheets(mix));
-    assert_eq!(
-        steps::take(&mut ours, steps, rules::amend),
-        0,
-        "an amendment was refused"
-    );
-    let library = AMEND.map(|call| amending(call, &mut theirs, steps));
-    let rust = amending(rules::amend, &mut ours, steps);
-    row(name, timing::both(library, rust, steps.len(), rounds));
-    // What was timed must also have been right.
-    assert!(theirs == ours, "the sheets differ after {name}");
+impl<const N: usize> Calls<N> {
+    fn time_fill(&self, name: &str, mix: &[Entries], rounds: usize) {
+        let (library, rust) = self.fill;
+        let library = library.map(|call| filling::<N>(call, mix));
+        let rust = filling::<N>(rust, mix);
+        row(name, timing::both(library, rust, mix.len(), rounds));
+    }
+
+    fn time_amend(&self, name: &str, mix: &[Entries], steps: &[Step], rounds: usize) {
+        let sheets = || junctions::sheets::<N>(mix, self.fill.1);
+        let ((library, rust), mut theirs, mut ours) = (self.amend, sheets(), sheets());
+        assert_eq!(
+            steps::take(&mut ours, steps, rust),
+            0,
+            "an amendment was refused"
+        );
+        let library = library.map(|call| amending(call, &mut theirs, steps));
+        let rust = amending(rust, &mut ours, steps);
+        row(name, timing::both(library, rust, steps.len(), rounds));
+        // What was timed must also have been right.
+        assert!(theirs == ours, "the sheets differ after {name}");
+    }
 }
 
 fn listing(call: List, file: &[u8]) -> Work<'_> {
@@ -155,7 +173,7 @@ fn time_record_in_fills(records: &[Record], rounds: usize) {
     let junctions: Vec<Entries> = records.iter().flat_map(halves).collect();
     let times = timing::both(
         Some(crossing(rate, records)),
-        filling(fill, &junctions),
+        filling::<CELLS>(fill, &junctions),
         records.len(),
         rounds,
     );
@@ -181,15 +199,16 @@ fn main() {
         "{:<36}{:>12}{:>12}{:>9}",
         "ns per call, medians", "library", "Rust", "ratio"
     );
-    time_fill("fill, no pedestrians", &quiet, rounds);
-    time_fill("fill, pedestrians", &walked, rounds);
-    time_fill("fill, mix", &mix, rounds);
+    JUNCTION.time_fill("fill, no pedestrians", &quiet, rounds);
+    JUNCTION.time_fill("fill, pedestrians", &walked, rounds);
+    JUNCTION.time_fill("fill, mix", &mix, rounds);
     for (kind, name) in NAMES.iter().enumerate() {
         let steps = steps::of_kind(&mut rng, &mix, kind);
-        time_amend(&format!("amend {name}"), &mix, &steps, rounds);
+        JUNCTION.time_amend(&format!("amend {name}"), &mix, &steps, rounds);
     }
     let steps = steps::of_all_kinds(&mut rng, &mix);
-    time_amend("amend, mix of all kinds", &mix, &steps, rounds);
+    JUNCTION.time_amend("amend, mix of all kinds", &mix, &steps, rounds);
+    point::time(&quiet, &walked, &mix, rounds);
     time_lists(&mix, rounds);
     for (name, mix) in [
         ("diamond, no pedestrians", &quiet),

@@ -120,7 +120,7 @@ fn time_amend_in_fills(junctions: &[Entries], steps: &[Step], rounds: usize) {
     let share = |of: &[Entries]| {
         let mut study = Study::of(junctions);
         let library = Some(amending(calls, &mut study, steps));
-        let times = timing::both(library, filling(fill, of), steps.len(), rounds);
+        let times = timing::both(library, filling::<CELLS>(fill, of), steps.len(), rounds);
         // A round takes every step once and fills each junction once.
         let fills = of.len() as f64 / steps.len() as f64;
         times.ratio.map_or(0.0, |ratio| ratio * fills)

@@ -1,6 +1,5 @@
 //! Amendments to time: every one accepted, and all together bring each sheet back to its start.
 
-use crate::junctions::Sheet;
 use compare::generate::{usual, Entries, Rng};
 use compare::rules::{judge, kind_of, ACCEPTED, ENTRIES, KINDS};
 
@@ -86,8 +85,8 @@ pub fn of_all_kinds(rng: &mut Rng, junctions: &[Entries]) -> Vec<Step> {
 }
 
 /// Amends the sheets step by step and counts what was refused, which must be nothing.
-pub fn take(
-    sheets: &mut [Sheet],
+pub fn take<const N: usize>(
+    sheets: &mut [[u32; N]],
     steps: &[Step],
     amend: fn(&mut [u32], u32, u32) -> compare::rules::Answer,
 ) -> usize {

@@ -36,6 +36,7 @@ PUBLIC = {
     "text_refusals": ["say_answer", "say_reading", "say_trouble"],
     "text_names": ["entry_named"],
     "program_outcome": ["front", "say"],
+    "program_wish": ["worksheet_of", "words_for", "arguments_for"],
     "program_words": ["word"],
     "program_sheet": ["takes", "run", "pages", "page"],
     "program_amend": ["takes", "new_place", "run"],

@@ -1,6 +1,7 @@
 /*
  * The edges of the interface: null with length 0 for every list, the names of the lines and of an interchange's numbers, lane
- * factors as measured and by the table, study files of both kinds, and two offices' first steps in an open study.
+ * factors as measured and by the table, study files of both kinds, two offices' first steps in an open study, and single points:
+ * every length that is not theirs, sheets of rubbish amended, and the book's typed entry by entry.
  * Prints nothing and ends with 0 where all is as the header says.
  */
 #include <stdio.h>
@@ -42,6 +43,21 @@ static void expect_cell(const char *what, uint32_t got, uint32_t due)
     wrong = 1;
 }
 
+/* What a list is given to hold so that a write into it shows. */
+#define RUBBISH UINT32_C(0x07070707)
+
+static void put_rubbish(uint32_t *list, size_t from, size_t to)
+{
+    for (size_t i = from; i < to; i++)
+        list[i] = RUBBISH;
+}
+
+static void expect_rubbish(const char *what, const uint32_t *list, size_t len)
+{
+    for (size_t i = 0; i < len; i++)
+        expect_cell(what, list[i], RUBBISH);
+}
+
 /* Two such junctions with one movement apart, storages and a travel time. */
 static void enter_record(uint32_t record[ICU_RECORD])
 {
@@ -68,12 +84,11 @@ static void diamond_sizes(const uint32_t record[ICU_RECORD + 1], uint32_t cells[
 static void refused_at(uint32_t record[ICU_RECORD], int place, uint32_t number, IcuAnswer due)
 {
     uint32_t cells[ICU_DIAMOND_CELLS], kept = record[place];
-    memset(cells, 7, sizeof cells);
+    put_rubbish(cells, 0, ICU_DIAMOND_CELLS);
     record[place] = number;
     expect("diamond, refused", icu_diamond(record, ICU_RECORD, cells, ICU_DIAMOND_CELLS), due.number, due.place);
     record[place] = kept;
-    for (int i = 0; i < ICU_DIAMOND_CELLS; i++)
-        expect_cell("cell after a refusal", cells[i], 0x07070707);
+    expect_rubbish("cell after a refusal", cells, ICU_DIAMOND_CELLS);
 }
 
 static void diamond_refusals(uint32_t record[ICU_RECORD])
@@ -353,6 +368,297 @@ static void study_written(void)
     expect("check, 166 sites", icu_study_check(file, ICU_MOST_FILE_BYTES), ICU_FILE, 4);
 }
 
+/* An amendment that types a number. */
+typedef struct Typed {
+    uint32_t entry, value;
+} Typed;
+
+enum { TYPED = 12 * 3 + 4 * 4 };
+
+/* The book's fourth example, to be typed over the starting entries: lanes come before the volumes that use them. */
+static void type_book(Typed typed[TYPED])
+{
+    static const uint32_t lanes[12] = {2, 3, 1, 2, 3, 1, 2, 0, 1, 2, 0, 2};
+    static const uint32_t volumes[12] = {500, 2200, 300, 700, 1500, 800, 800, 0, 200, 900, 0, 800};
+    static const uint32_t walkers[4] = {12, 0, 0, 0}, buttons[4] = {1, 1, 0, 0}, frees[4] = {1, 0, 0, 1};
+    static const uint32_t times[4] = {24000, 24000, 20000, 20000};
+
+    for (int m = 0; m < 12; m++) {
+        *typed++ = (Typed){ICU_LANES(m), lanes[m]};
+        *typed++ = (Typed){ICU_VOLUME(m), volumes[m]};
+        *typed++ = (Typed){ICU_MINIMUM_GREEN(m), 8000};
+    }
+    for (int a = ICU_EB; a <= ICU_SB; a++) {
+        *typed++ = (Typed){ICU_PEDESTRIANS(a), walkers[a]};
+        *typed++ = (Typed){ICU_PUSH_BUTTON(a), buttons[a]};
+        *typed++ = (Typed){ICU_PEDESTRIAN_TIME(a), times[a]};
+        *typed++ = (Typed){ICU_FREE_RIGHT(a), frees[a]};
+    }
+}
+
+static void enter_book(uint32_t entries[ICU_ENTRIES])
+{
+    Typed typed[TYPED];
+
+    type_book(typed);
+    expect("point start", icu_point_start(entries, ICU_ENTRIES), ICU_ACCEPTED, 0);
+    for (int i = 0; i < TYPED; i++)
+        entries[typed[i].entry] = typed[i].value;
+}
+
+static IcuAnswer point_fill(const uint32_t entries[ICU_ENTRIES], uint32_t sheet[ICU_POINT_CELLS])
+{
+    return icu_point_fill(entries, ICU_ENTRIES, sheet, ICU_POINT_CELLS);
+}
+
+static IcuAnswer point_amend(uint32_t sheet[ICU_POINT_CELLS], uint32_t entry, uint32_t value)
+{
+    return icu_point_amend(sheet, ICU_POINT_CELLS, entry, value);
+}
+
+/* The list, or null where nothing of it is lent. */
+static uint32_t *lent(uint32_t *list, size_t len)
+{
+    return len ? list : NULL;
+}
+
+/* Lengths on both sides of the right ones, none, and a junction's: nothing is written, whatever else is wrong. */
+static void point_sizes(void)
+{
+    static const size_t lists[] = {0, 92, 94, ICU_POINT_CELLS}, sheets[] = {0, ICU_ENTRIES, 174, 176, ICU_CELLS};
+    uint32_t entries[ICU_ENTRIES], list[ICU_POINT_CELLS], sheet[ICU_CELLS];
+
+    enter_book(entries);
+    put_rubbish(list, 0, ICU_POINT_CELLS);
+    put_rubbish(sheet, 0, ICU_CELLS);
+    expect("point fill, nothing lent", icu_point_fill(NULL, 0, NULL, 0), ICU_SIZE, 0);
+    for (size_t i = 0; i < sizeof lists / sizeof *lists; i++) {
+        uint32_t *some = lent(list, lists[i]);
+        expect("point start, length", icu_point_start(some, lists[i]), ICU_SIZE, 0);
+        expect("point fill, entries' length", icu_point_fill(some, lists[i], sheet, ICU_POINT_CELLS), ICU_SIZE, 0);
+    }
+    for (size_t i = 0; i < sizeof sheets / sizeof *sheets; i++) {
+        uint32_t *some = lent(sheet, sheets[i]);
+        expect("point fill, sheet's length", icu_point_fill(entries, ICU_ENTRIES, some, sheets[i]), ICU_SIZE, 0);
+        expect("point amend, length", icu_point_amend(some, sheets[i], ICU_ENTRIES, 0), ICU_SIZE, 0);
+    }
+    expect_rubbish("list after refusals", list, ICU_POINT_CELLS);
+    expect_rubbish("sheet after refusals", sheet, ICU_CELLS);
+    expect("fill of a single point's sheet", icu_fill(entries, ICU_ENTRIES, sheet, ICU_POINT_CELLS), ICU_SIZE, 0);
+    expect("amend of a single point's sheet", icu_amend(sheet, ICU_POINT_CELLS, 0, 0), ICU_SIZE, 0);
+}
+
+static uint32_t starting_value(uint32_t entry)
+{
+    uint32_t movement = entry / 6, kind = entry % 6;
+
+    if (entry >= ICU_SHARED_LANE(ICU_EB))
+        return entry == ICU_CYCLE ? 120 : 0;
+    if (kind == ICU_LOST_TIME(0))
+        return movement % 3 == ICU_LEFT ? 8000 : 6000;
+    return kind == ICU_IDEAL_FLOW(0) ? 2000 : 0;
+}
+
+/* All 93 entries are written and nothing past them; of their sheet only the turning factors, of no turns, are not 0. */
+static void point_start(void)
+{
+    uint32_t entries[ICU_ENTRIES + 1], sheet[ICU_POINT_CELLS];
+
+    put_rubbish(entries, 0, ICU_ENTRIES + 1);
+    expect("point start", icu_point_start(entries, ICU_ENTRIES), ICU_ACCEPTED, 0);
+    expect_cell("number past the entries", entries[ICU_ENTRIES], RUBBISH);
+    expect("point fill of the start", point_fill(entries, sheet), ICU_ACCEPTED, 0);
+    for (uint32_t i = 0; i < ICU_ENTRIES; i++) {
+        expect_cell("starting entry", entries[i], starting_value(i));
+        expect_cell("starting entry on the sheet", sheet[i], starting_value(i));
+    }
+    for (int a = ICU_EB; a <= ICU_SB; a++) {
+        expect_cell("turning factor", sheet[ICU_POINT_LINE(a, ICU_TURNING_FACTOR)], 10000);
+        sheet[ICU_POINT_LINE(a, ICU_TURNING_FACTOR)] = 0;
+    }
+    for (int i = ICU_ENTRIES; i < ICU_POINT_CELLS; i++)
+        expect_cell("cell of the start", sheet[i], 0);
+}
+
+static void point_cells(void)
+{
+    uint32_t entries[ICU_ENTRIES], sheet[ICU_POINT_CELLS + 1];
+
+    enter_book(entries);
+    put_rubbish(sheet, 0, ICU_POINT_CELLS + 1);
+    expect("point fill", point_fill(entries, sheet), ICU_ACCEPTED, 0);
+    expect_cell("entries on the sheet", memcmp(sheet, entries, sizeof entries) == 0, 1);
+    expect_cell("left volume", sheet[ICU_POINT_LINE(ICU_EB, ICU_LEFT_VOLUME)], 500);
+    expect_cell("straight flow", sheet[ICU_POINT_LINE(ICU_WB, ICU_STRAIGHT_FLOW)], 54480);
+    expect_cell("pedestrian frequency", sheet[ICU_POINT_LINE(ICU_EB, ICU_PEDESTRIAN_FREQUENCY)], 3297);
+    expect_cell("adjusted right", sheet[ICU_POINT_LINE(ICU_SB, ICU_RIGHT_ADJUSTED)], 37905);
+    expect_cell("EB-WB", sheet[ICU_POINT_EB_WB], 85225);
+    expect_cell("NB-SB", sheet[ICU_POINT_NB_SB], 37270);
+    expect_cell("right total, free", sheet[ICU_POINT_RIGHT_TOTAL(ICU_EB)], 28646);
+    expect_cell("right total, waiting", sheet[ICU_POINT_RIGHT_TOTAL(ICU_NB)], 111847);
+    expect_cell("combined", sheet[ICU_POINT_COMBINED], 122495);
+    expect_cell("required", sheet[ICU_POINT_REQUIRED], 122495);
+    expect_cell("ICU", sheet[ICU_POINT_ICU], 1021);
+    expect_cell("letter", sheet[ICU_POINT_LETTER], 6);
+    expect_cell("number past the sheet", sheet[ICU_POINT_CELLS], RUBBISH);
+}
+
+/* The book's entries with another value of one: refused alike as entries and as an amendment, and no cell altered. */
+static void point_refused(uint32_t entry, uint32_t value, IcuAnswer due)
+{
+    uint32_t entries[ICU_ENTRIES], sheet[ICU_POINT_CELLS], filled[ICU_POINT_CELLS];
+
+    enter_book(entries);
+    expect("point fill", point_fill(entries, filled), ICU_ACCEPTED, 0);
+    memcpy(sheet, filled, sizeof sheet);
+    expect("point amend, refused", point_amend(sheet, entry, value), due.number, due.place);
+    expect_cell("sheet after a refusal", memcmp(sheet, filled, sizeof sheet) == 0, 1);
+    entries[entry] = value;
+    put_rubbish(sheet, 0, ICU_POINT_CELLS);
+    expect("point fill, refused", point_fill(entries, sheet), due.number, due.place);
+    expect_rubbish("cell after a refusal", sheet, ICU_POINT_CELLS);
+}
+
+static void point_refusals(void)
+{
+    uint32_t sheet[ICU_POINT_CELLS];
+
+    point_refused(ICU_CYCLE, 241, (IcuAnswer){ICU_RANGE, ICU_CYCLE});
+    point_refused(ICU_LANE_FACTOR(0), 499, (IcuAnswer){ICU_RANGE, ICU_LANE_FACTOR(0)});
+    point_refused(ICU_SHARED_LANE(ICU_EB), 2, (IcuAnswer){ICU_RANGE, ICU_SHARED_LANE(ICU_EB)});
+    point_refused(ICU_SHARED_LANE(ICU_SB), 1, (IcuAnswer){ICU_SHARED, ICU_SB});
+    point_refused(ICU_LANES(ICU_MOVEMENT(ICU_WB, ICU_THROUGH)), 0, (IcuAnswer){ICU_NOLANE, 4});
+    point_refused(ICU_VOLUME(ICU_MOVEMENT(ICU_NB, ICU_THROUGH)), 1, (IcuAnswer){ICU_NOLANE, 7});
+    /* with not one good entry */
+    put_rubbish(sheet, 0, ICU_POINT_CELLS);
+    expect("point amend, entry 93", point_amend(sheet, ICU_ENTRIES, 0), ICU_ENTRY, 0);
+    expect("point amend, no such entry", point_amend(sheet, UINT32_MAX, 0), ICU_ENTRY, 0);
+    expect("point amend, rubbish", point_amend(sheet, ICU_CYCLE, 120), ICU_RANGE, 0);
+    expect("point amend, the lowest put right", point_amend(sheet, 0, 1), ICU_RANGE, 1);
+    expect_rubbish("sheet after refusals", sheet, ICU_POINT_CELLS);
+}
+
+/* Lanes that a junction may share: a single point may not, until the last of them is its own. */
+static void point_shared(void)
+{
+    uint32_t entries[ICU_ENTRIES], whole[ICU_CELLS], sheet[ICU_POINT_CELLS], fresh[ICU_POINT_CELLS];
+
+    enter(entries);
+    entries[ICU_LANES(ICU_MOVEMENT(ICU_WB, ICU_LEFT))] = entries[ICU_LANES(ICU_MOVEMENT(ICU_SB, ICU_LEFT))] = 0;
+    entries[ICU_VOLUME(ICU_MOVEMENT(ICU_SB, ICU_LEFT))] = 0;
+    entries[ICU_SHARED_LANE(ICU_WB)] = entries[ICU_SHARED_LANE(ICU_SB)] = 1;
+    expect("fill, shared", icu_fill(entries, ICU_ENTRIES, whole, ICU_CELLS), ICU_ACCEPTED, 0);
+    expect("point fill, shared", point_fill(entries, sheet), ICU_SHARED, ICU_WB);
+    entries[ICU_SHARED_LANE(ICU_WB)] = 0;
+    expect("point fill, shared before no lane", point_fill(entries, sheet), ICU_SHARED, ICU_SB);
+    entries[ICU_LANES(ICU_MOVEMENT(ICU_WB, ICU_LEFT))] = 1;
+    memcpy(sheet, entries, sizeof entries);
+    expect("point amend, shared as before", point_amend(sheet, ICU_CYCLE, 90), ICU_SHARED, ICU_SB);
+    expect("point amend, no longer shared", point_amend(sheet, ICU_SHARED_LANE(ICU_SB), 0), ICU_ACCEPTED, 0);
+    entries[ICU_SHARED_LANE(ICU_SB)] = 0;
+    expect("point fill, no longer shared", point_fill(entries, fresh), ICU_ACCEPTED, 0);
+    expect("point amend, the cycle", point_amend(sheet, ICU_CYCLE, 120), ICU_ACCEPTED, 0);
+    expect_cell("every cell as filled", memcmp(sheet, fresh, sizeof sheet) == 0, 1);
+}
+
+/* A set of an approach's lines, bit k - 1 for line k. */
+#define LINES(first, last) ((UINT32_C(1) << (last)) - (UINT32_C(1) << ((first) - 1)))
+
+/* The own lines that an amendment of NB's entry reaches. */
+static uint32_t reached_lines(uint32_t entry)
+{
+    switch (entry) {
+    case ICU_PEDESTRIANS(ICU_NB):
+        return LINES(10, 12) | LINES(14, 15) | LINES(17, 18);
+    case ICU_PUSH_BUTTON(ICU_NB):
+        return LINES(12, 12) | LINES(17, 17);
+    case ICU_PEDESTRIAN_TIME(ICU_NB):
+        return LINES(17, 17);
+    case ICU_FREE_RIGHT(ICU_NB):
+        return 0;
+    case ICU_SHARED_LANE(ICU_NB):
+        return LINES(1, 18);
+    }
+    return entry % 6 == ICU_LOST_TIME(0) || entry % 6 == ICU_MINIMUM_GREEN(0) ? LINES(16, 18) : LINES(1, 18);
+}
+
+/* Whether an amendment of an entry of NB or of the cycle reaches a cell. */
+static int reaches(uint32_t entry, uint32_t cell)
+{
+    uint32_t first = ICU_POINT_LINE(ICU_NB, 1);
+
+    if (cell == entry || cell >= ICU_POINT_RIGHT_TOTAL(ICU_EB))
+        return 1;
+    if (cell < ICU_ENTRIES || entry == ICU_CYCLE)
+        return cell >= ICU_ENTRIES;
+    if (cell >= ICU_POINT_EB_WB)
+        return cell == ICU_POINT_NB_SB && entry != ICU_FREE_RIGHT(ICU_NB);
+    return cell >= first && cell < first + 18 && reached_lines(entry) >> (cell - first) & 1;
+}
+
+/* The book's entries before rubbish: the reached cells are those of a fresh fill, the others stay. */
+static void point_reached(uint32_t entry, uint32_t value)
+{
+    uint32_t entries[ICU_ENTRIES], sheet[ICU_POINT_CELLS], fresh[ICU_POINT_CELLS];
+
+    enter_book(entries);
+    memcpy(sheet, entries, sizeof entries);
+    put_rubbish(sheet, ICU_ENTRIES, ICU_POINT_CELLS);
+    expect("point amend of rubbish", point_amend(sheet, entry, value), ICU_ACCEPTED, 0);
+    entries[entry] = value;
+    expect("point fill, amended", point_fill(entries, fresh), ICU_ACCEPTED, 0);
+    for (uint32_t cell = 0; cell < ICU_POINT_CELLS; cell++) {
+        uint32_t stood = cell < ICU_ENTRIES ? entries[cell] : RUBBISH;
+        expect_cell("cell after an amendment", sheet[cell], reaches(entry, cell) ? fresh[cell] : stood);
+    }
+}
+
+/* Every kind of entry, of NB, and the cycle. */
+static void point_amendments(void)
+{
+    static const uint32_t values[6] = {3, 150, 1900, 7000, 9000, 900}, own[5] = {0, 60, 1, 30000, 1};
+    const uint32_t movement = ICU_LANES(ICU_MOVEMENT(ICU_NB, ICU_RIGHT)), approach = ICU_SHARED_LANE(ICU_NB);
+
+    for (uint32_t kind = 0; kind < 6; kind++)
+        point_reached(movement + kind, values[kind]);
+    for (uint32_t kind = 0; kind < 5; kind++)
+        point_reached(approach + kind, own[kind]);
+    point_reached(ICU_CYCLE, 90);
+}
+
+/* The book's entries typed one by one; what is refused between them leaves the sheet, and each is as filled afresh. */
+static void point_run(void)
+{
+    Typed typed[TYPED];
+    uint32_t entries[ICU_ENTRIES], sheet[ICU_POINT_CELLS], fresh[ICU_POINT_CELLS];
+
+    type_book(typed);
+    expect("point start", icu_point_start(entries, ICU_ENTRIES), ICU_ACCEPTED, 0);
+    expect("point fill of the start", point_fill(entries, sheet), ICU_ACCEPTED, 0);
+    expect("volume before its lane", point_amend(sheet, ICU_VOLUME(0), 500), ICU_NOLANE, 0);
+    for (int i = 0; i < TYPED; i++) {
+        expect("typed", point_amend(sheet, typed[i].entry, typed[i].value), ICU_ACCEPTED, 0);
+        entries[typed[i].entry] = typed[i].value;
+        expect("a shared lane", point_amend(sheet, ICU_SHARED_LANE(i % 4), 1), ICU_SHARED, i % 4);
+        expect("a bad value", point_amend(sheet, typed[i].entry, UINT32_MAX), ICU_RANGE, typed[i].entry);
+        expect("point fill", point_fill(entries, fresh), ICU_ACCEPTED, 0);
+        expect_cell("sheet as filled afresh", memcmp(sheet, fresh, sizeof sheet) == 0, 1);
+    }
+    expect_cell("ICU of the book", sheet[ICU_POINT_ICU], 1021);
+    expect_cell("its letter", sheet[ICU_POINT_LETTER], 6);
+}
+
+static void single_point(void)
+{
+    point_sizes();
+    point_start();
+    point_cells();
+    point_refusals();
+    point_shared();
+    point_amendments();
+    point_run();
+}
+
 int main(void)
 {
     uint32_t entries[ICU_ENTRIES], sheet[ICU_CELLS], length = 7;
@@ -383,5 +689,6 @@ int main(void)
     study_written();
     diamond();
     open_study();
+    single_point();
     return wrong;
 }

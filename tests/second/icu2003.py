@@ -112,15 +112,20 @@ def nolane_place(entries):
     return None
 
 
-def judge(entries):
-    """(number, place) of the first refusal that applies, (0, 0) if there is none."""
+def judged(entries, shared_search):
+    """(number, place) of the first refusal that applies, with what is looked for as SHARED."""
     if len(entries) != ENTRIES:
         return (1, 0)
-    for number, search in ((3, range_place), (4, shared_place), (5, nolane_place)):
+    for number, search in ((3, range_place), (4, shared_search), (5, nolane_place)):
         place = search(entries)
         if place is not None:
             return (number, place)
     return (0, 0)
+
+
+def judge(entries):
+    """(number, place) of the first refusal that applies to a junction, (0, 0) if there is none."""
+    return judged(entries, shared_place)
 
 
 # ---------------------------------------------------------------- words the lines share
@@ -517,11 +522,9 @@ def letter(icu):
     return sum(1 for end in LETTER_ENDS if icu > end)
 
 
-def last_eight(legs, pairs, cl):
-    """Right totals, combined, required, ICU, letter."""
-    picks = [pair[3] for pair in pairs]
+def last_eight(legs, picks, combined, cl):
+    """Right totals, combined, required, ICU, letter, of the pairs' picks and the picked times added."""
     rights = [right_total(legs, picks, a) for a in range(4)]
-    combined = sum(pair[pair[3]] for pair in pairs)
     required = max(rights + [combined])
     icu = up(required, cl)
     return rights + [combined, required, icu, letter(icu)]
@@ -529,12 +532,12 @@ def last_eight(legs, pairs, cl):
 
 # ---------------------------------------------------------------- the sheet
 
-def worked_legs(entries):
-    """The four approaches with all their lines."""
+def worked_legs(entries, lines=LINES):
+    """The four approaches with all their lines, or with the first of them."""
     legs = [Leg(entries, a) for a in range(4)]
     for a, leg in enumerate(legs):
         leg.oncoming = legs[a ^ 1]
-    for k, line in enumerate(LINES, 1):  # line by line, so that the oncoming lines stand ready
+    for k, line in enumerate(lines, 1):  # line by line, so that the oncoming lines stand ready
         for leg in legs:
             leg.line[k] = line(leg)
     return legs
@@ -550,7 +553,8 @@ def fill(entries):
     sheet = list(entries)
     for leg in legs:
         sheet += leg.line[1:]
-    return sheet + pairs[0] + pairs[1] + last_eight(legs, pairs, entries[CYCLE])
+    picks, combined = [pair[3] for pair in pairs], sum(pair[pair[3]] for pair in pairs)
+    return sheet + pairs[0] + pairs[1] + last_eight(legs, picks, combined, entries[CYCLE])
 
 
 def beside(entries):
@@ -586,37 +590,120 @@ APPROACH_REACH = (
 )
 
 
+def reached_lines(entry):
+    """The approach of an entry that is not the cycle, its own lines that are reached, and those of the opposite approach."""
+    if entry < OWN:
+        return (entry // 18, *MOVEMENT_REACH[entry % 6])
+    return ((entry - OWN) // 5, *APPROACH_REACH[(entry - OWN) % 5])
+
+
+def is_free_right(entry):
+    """Whether an entry is an approach's free right, the one kind that reaches no pair."""
+    return OWN <= entry < CYCLE and (entry - OWN) % 5 == 4
+
+
 def reach(entry):
     """Cells that an amendment of this entry works out afresh, the entry itself apart."""
     if entry == CYCLE:
         return list(range(LINES_AT, CELLS))
-    if entry < OWN:
-        a, (own, opposite) = entry // 18, MOVEMENT_REACH[entry % 6]
-    else:
-        a, (own, opposite) = (entry - OWN) // 5, APPROACH_REACH[(entry - OWN) % 5]
+    a, own, opposite = reached_lines(entry)
     cells = [cell(a, k) for k in own] + [cell(a ^ 1, k) for k in opposite]
-    free_right = entry >= OWN and (entry - OWN) % 5 == 4
-    if not free_right:
+    if not is_free_right(entry):
         cells += range(PAIRS + 4 * (a // 2), PAIRS + 4 * (a // 2) + 4)
     return sorted(cells) + list(range(LAST, CELLS))
 
 
-def amend(sheet, entry, value):
-    """Change one entry of a sheet where it stands; (number, place), (0, 0) if accepted."""
-    if len(sheet) != CELLS:
+def amended(sheet, entry, value, kind):
+    """Change one entry of a sheet of a kind: its size, how entries are judged and filled, and what an entry reaches."""
+    size, judging, filling, reaching = kind
+    if len(sheet) != size:
         return (1, 0)
     if entry >= ENTRIES:
         return (2, 0)
     entries = sheet[:ENTRIES]
     entries[entry] = value
-    refusal = judge(entries)
+    refusal = judging(entries)
     if refusal != (0, 0):
         return refusal
-    fresh = fill(entries)
+    fresh = filling(entries)
     sheet[entry] = value
-    for i in reach(entry):
+    for i in reaching(entry):
         sheet[i] = fresh[i]
     return (0, 0)
+
+
+def amend(sheet, entry, value):
+    """Change one entry of a junction's sheet where it stands; (number, place), (0, 0) if accepted."""
+    return amended(sheet, entry, value, (CELLS, judge, fill, reach))
+
+
+# ---------------------------------------------------------------- single point interchanges
+
+# Where things stand: the entries, then lines 1 to 18 of each approach, the protected total of each pair, the last eight.
+POINT_LINES = LINES[:18]
+POINT_TOTALS = 165
+POINT_LAST = 167
+POINT_CELLS = 175
+PROTECTED = (0, 0)  # the picks of both pairs: there is no other phasing
+POINT_MOVEMENTS = tuple((0, 0, 2000, lost, 0, BY_TABLE) for lost in (8000, 6000, 6000))  # L, T and R to start with
+POINT_APPROACH = (0, 0, 0, 0, 0)
+POINT_CYCLE = 120
+
+
+def point_start(entries):
+    """Write the starting entries where they are wanted; (number, place), (0, 0) if there are as many as they must be."""
+    if len(entries) != ENTRIES:
+        return (1, 0)
+    entries[:] = [x for movement in 4 * POINT_MOVEMENTS for x in movement] + list(4 * POINT_APPROACH) + [POINT_CYCLE]
+    return (0, 0)
+
+
+def any_shared_place(entries):
+    """Lowest approach with a shared lane, or None."""
+    return next((a for a in range(4) if Leg(entries, a).shared == 1), None)
+
+
+def judge_point(entries):
+    """(number, place) of the first refusal that applies to a single point, (0, 0) if there is none."""
+    return judged(entries, any_shared_place)
+
+
+def point_cell(a, k):
+    """Where line k of approach a stands in the sheet."""
+    return LINES_AT + 18 * a + k - 1
+
+
+def fill_point(entries):
+    """The 175 cells of a fresh sheet. The entries must be acceptable."""
+    refusal = judge_point(entries)
+    if refusal != (0, 0):
+        raise ValueError("refused: %d at %d" % refusal)
+    legs = worked_legs(entries, POINT_LINES)
+    totals = [protected(legs[0], legs[1]), protected(legs[2], legs[3])]
+    sheet = list(entries)
+    for leg in legs:
+        sheet += leg.line[1:19]
+    return sheet + totals + last_eight(legs, PROTECTED, sum(totals), entries[CYCLE])
+
+
+def point_beside(entries):
+    """What is worked beside the sheet: what each approach's right turns wait for, of acceptable entries."""
+    legs = worked_legs(entries, POINT_LINES)
+    return [x for a in range(4) for x in waited_for(legs, PROTECTED, a)]
+
+
+def point_reach(entry):
+    """Cells that an amendment of this entry works out afresh: a junction's, as far as this sheet has them, the pair's total for its cells."""
+    if entry == CYCLE:
+        return list(range(LINES_AT, POINT_CELLS))
+    a, own, _ = reached_lines(entry)
+    totals = [] if is_free_right(entry) else [POINT_TOTALS + a // 2]
+    return [point_cell(a, k) for k in own if k <= 18] + totals + list(range(POINT_LAST, POINT_CELLS))
+
+
+def amend_point(sheet, entry, value):
+    """Change one entry of a single point's sheet where it stands; (number, place), (0, 0) if accepted."""
+    return amended(sheet, entry, value, (POINT_CELLS, judge_point, fill_point, point_reach))
 
 
 # ---------------------------------------------------------------- diamond interchanges

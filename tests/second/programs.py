@@ -2,8 +2,9 @@
 
     python3 tests/second/programs.py PART
 
-PART is one of: usage, samples, junctions, runs, typed, damaged, studies, amendments, convert, kept, diamond, office. Programs are taken
-from target/bin and samples from samples/, under the project's root, where this is to be started. The last line counts what was compared.
+PART is one of: usage, samples, junctions, runs, typed, damaged, studies, amendments, convert, kept, diamond, office, point. Programs are
+taken from target/bin and samples from samples/, under the project's root, where this is to be started. The last line counts what was
+compared.
 """
 
 import os
@@ -20,15 +21,18 @@ import diamonds
 import icu2003
 import junctions
 import offices
+import points
 import table
 from icu2003 import CYCLE, ENTRIES, PLACES, STORAGES, TRAVEL, approach_entry, in_range, movement_entry
 from junctions import LANES, SHARED_LANE, VOLUME
+from points import POINT
 from studies import narrowed, old_file, old_study, put
 
 BIN = os.path.abspath("target/bin")
 SAMPLES = "samples/table"
 DIAMONDS = "samples/diamond"
 OFFICES = "samples/office"
+POINTS = "samples/point"
 NAMES = list(table.TITLES)
 NAMED = dict(junctions.all_junctions())
 MARK = b"\xef\xbb\xbf"  # a byte-order mark
@@ -36,10 +40,10 @@ CHANGES_MOST = 20
 
 
 class Bench:
-    """A folder to work in, and a count of what was compared."""
+    """A folder to work in, the kind of sheet that is asked for there, and a count of what was compared."""
 
-    def __init__(self, folder, seed):
-        self.folder, self.rng, self.count = folder, random.Random(seed), 0
+    def __init__(self, folder, seed, kind=table.JUNCTION):
+        self.folder, self.rng, self.count, self.kind = folder, random.Random(seed), 0, kind
 
     def path(self, name):
         return os.path.join(self.folder, name)
@@ -64,6 +68,14 @@ class Bench:
         self.same("exit status of %s" % program, done.returncode, 0)
         return done.stdout, done.stderr
 
+    def sheet(self, *words):
+        """The same of icusheet, asked for this kind of sheet."""
+        return self.run("icusheet", *option(self.kind), *words)
+
+    def amend(self, *words):
+        """The same of icuamend."""
+        return self.run("icuamend", *option(self.kind), *words)
+
     def run_so(self, status, program, words, before=None, out=subprocess.PIPE, source=None):
         """(standard output, standard error) of a program that ends with this status, after a step of its own before it begins."""
         done = subprocess.run([os.path.join(BIN, program)] + list(words), stdin=source, stdout=out, stderr=subprocess.PIPE,
@@ -87,25 +99,30 @@ class Bench:
 
 # ---------------------------------------------------------------- what is expected
 
+def option(kind):
+    """The word in front that asks for a kind of sheet, if one is needed."""
+    return ["--point"] if kind is POINT else []
+
+
 def study_of(sites):
     """The bytes of a study file of these sites."""
     return icu2003.study_file(sites)
 
 
-def all_pages(path, sites):
+def all_pages(path, sites, kind=table.JUNCTION):
     """What icusheet prints and says of all sites of a study: pages that a form feed parts."""
-    pages = [table.site_page(path.encode(), sites, number) for number in range(1, len(sites) + 1)]
+    pages = [table.site_page(path.encode(), sites, number, kind) for number in range(1, len(sites) + 1)]
     return b"\f".join(page for page, _ in pages), b"".join(said for _, said in pages)
 
 
-def typed_sheet(path, data):
+def typed_sheet(path, data, kind=table.JUNCTION):
     """What icusheet prints of a text."""
     if icu2003.study_check(data) == (0, 0):
         return b"", path.encode() + b": this is a study file: add a site, counted from 1, or all\n"
-    said = table.said_of(data)
+    said = table.said_of(data, kind.judge)
     if said:
         return b"", path.encode() + b": " + said.encode()
-    return table.text_page(path.encode(), data), b""
+    return table.text_page(path.encode(), data, kind), b""
 
 
 def pick(rng, entry):
@@ -130,6 +147,16 @@ def likely(rng):
                 entries[left] = 0
             else:
                 entries[left] = max(1, entries[left])
+    return entries
+
+
+def likely_of(b):
+    """Entries that are mostly acceptable for the kind of sheet: of a single point most shared lanes are taken away."""
+    entries = likely(b.rng)
+    for a in range(4):
+        if b.kind is POINT and entries[approach_entry(a, SHARED_LANE)] and b.rng.random() < 0.9:
+            entries[approach_entry(a, SHARED_LANE)] = 0
+            entries[movement_entry(3 * a, LANES)] = max(1, entries[movement_entry(3 * a, LANES)])
     return entries
 
 
@@ -163,29 +190,33 @@ def named_value(entry, value):
     return [group, kind, table.value_text(kind, value)]
 
 
-def one_change(entries, words):
+def one_change(entries, words, kind):
     """The entries after a change that three words ask for, and what is said of it if it is not made."""
     try:
         entry, value = table.change_of([table.word_taken(word) for word in words])
     except table.Wrong as wrong:
         return entries, wrong.args[0] + b": " + wrong.args[1].encode() + b"\n"
     changed = junctions.changed(entries, {entry: value})
-    refusal = icu2003.judge(changed)
+    refusal = kind.judge(changed)
     return (changed, b"") if refusal == (0, 0) else (entries, table.refusal_text(*refusal).encode() + b"\n")
 
 
-def several_changes(entries, words):
+def sheet_before(entries, kind):
+    """The sheet of the entries as they were, None where they are refused."""
+    return kind.fill(entries) if kind.judge(entries) == (0, 0) else None
+
+
+def several_changes(entries, words, kind=table.JUNCTION):
     """What icuamend prints and says of the changes in these words, the entries after them, and whether one was made."""
     changes, now, made, said = [words[i:i + 3] for i in range(0, len(words), 3)], entries, False, b""
     for number, change in enumerate(changes, 1):
-        now, why = one_change(now, change)
+        now, why = one_change(now, change, kind)
         made = made or not why
         if why:
             said += (b"change %d: " % number if len(changes) > 1 else b"") + why
     if not made:
         return (b"", said), entries, False
-    before = icu2003.fill(entries) if icu2003.judge(entries) == (0, 0) else None
-    return (table.change_text(before, icu2003.fill(now)).encode(), said), now, True
+    return (table.change_text(sheet_before(entries, kind), kind.fill(now), kind).encode(), said), now, True
 
 
 def damaged(rng, data):
@@ -246,38 +277,48 @@ SAID_OF_CHANGES = (
     (("EB", "lane-factor", "1"), b"lane-factor: no entry has this name there\n"),
 )
 
-# How icustudy is used, and what icuamend says of a movement's entries.
+# How icusheet, icuamend and icustudy are used.
+SHEET_USE = (b"usage: icusheet TEXT         prints the worksheet of the junction in a text\n"
+             b"       icusheet STUDY SITE   prints that of a site of a study file, sites from 1\n"
+             b"       icusheet STUDY all    prints those of all its sites, a page each\n"
+             b"       icusheet --point ..   with any of these: prints that of a single point interchange\n"
+             b"       icusheet --help       prints this, and --version the version\n")
+AMEND_USE = (b"usage: icuamend [--point] STUDY SITE NAME ENTRY VALUE [NAME ENTRY VALUE ..] [NEW]\n"
+             b"  prints what changes on the sheet of a site, from 1, as in: icuamend STUDY 1 EBT volume 450\n"
+             b"  --point: on the sheet of a single point interchange\n"
+             b"  NAME: EBL EBT EBR .. SBR with lanes volume ideal-flow lost-time minimum-green lane-factor,\n"
+             b"        EB WB NB SB with shared-lane pedestrians push-button pedestrian-time free-right,\n"
+             b"        junction with cycle; at most 20 changes, one after the other\n"
+             b"  NEW: the file that the changed study is written to\n")
 STUDY_USE = (b"usage: icustudy make STUDY TEXT ...   makes a study file of the junctions in the texts\n"
              b"       icustudy show STUDY SITE       prints a site of a study file as text, sites from 1\n"
-             b"       icustudy convert STUDY NEW     writes a study of before (ICUS) as one of today (ICUT)\n")
-MOVEMENT_USE = b"\n  NAME: EBL EBT EBR .. SBR with lanes volume ideal-flow lost-time minimum-green lane-factor,\n"
+             b"       icustudy convert STUDY NEW     writes a study of before (ICUS) as one of today (ICUT)\n"
+             b"       icustudy point                 prints a text to begin a single point interchange with\n")
+VERSION = b"icu2003 3.1\n"
+
+# Words that ask for nothing, and a word in front that asks for a single point's sheet does not change that.
+NO_SHEET = ((), ("a", "1", "c"), ("a", "all", "all", "all"), ("--help",) * 3)
+NO_CHANGE = ((), ("a",), ("a", "1", "EBT", "volume"), ("a", "1", "EBT", "volume", "1", "n", "o"), ("a", "1") + ("EBT", "volume", "1") * 21,
+             ("a", "1") + ("EBT", "volume", "1") * 21 + ("n",), ("a", "1") + ("EBT", "volume", "1") * 400, ("--help", "a"), ("--version", "a"), ("-h",))
+NO_JOB = ((), ("make",), ("make", "a"), ("show", "a"), ("mend", "a", "b"), ("show", "a", "1", "2"), ("convert",), ("convert", "a"),
+          ("convert", "a", "b", "c"), ("Convert", "a", "b"), ("point", "x"), ("point", ""), ("point", "point"), ("point", "--help"), ("Point",),
+          ("points",), ("--point",), ("point", "a", "b"), ("point", "a", "b", "c"), ("--help", "point"))
 
 
 def usage(b):
     """Called with nothing or with a wrong word, each program says how it is used."""
-    for program, calls in (("icusheet", ((), ("a", "1", "c"))),
-                           ("icuamend", ((), ("a",), ("a", "1", "EBT", "volume"), ("a", "1", "EBT", "volume", "1", "n", "o"),
-                                         ("a", "1") + ("EBT", "volume", "1") * 21, ("a", "1") + ("EBT", "volume", "1") * 21 + ("n",),
-                                         ("a", "1") + ("EBT", "volume", "1") * 400, ("--help", "a"), ("--version", "a"), ("-h",))),
-                           ("icustudy", ((), ("make",), ("make", "a"), ("show", "a"), ("mend", "a", "b"), ("show", "a", "1", "2"), ("convert",),
-                                         ("convert", "a"), ("convert", "a", "b", "c"), ("Convert", "a", "b")))):
+    for program, use, calls in (("icusheet", SHEET_USE, NO_SHEET), ("icuamend", AMEND_USE, NO_CHANGE), ("icustudy", STUDY_USE, NO_JOB)):
         for words in calls:
-            out, said = b.run(program, *words)
-            b.same("output of %s" % program, out, b"")
-            b.same("usage of %s" % program, said.startswith(b"usage: %s " % program.encode()), True)
-    b.same("jobs of icustudy", b.run("icustudy", "--help")[0].startswith(STUDY_USE), True)
-    b.same("entries of a movement", MOVEMENT_USE in b.run("icuamend", "--help")[0], True)
+            b.same("use of %s" % program, b.run(program, *words), (b"", use))
+    b.same("the header's version", version(), VERSION)
     study = b.put("s.icut", study_of([junctions.K1]))
     for words, said in SAID_OF_CHANGES:
         b.same("said", b.run("icuamend", study, "1", *words), (b"", said))
         b.same("words", several_changes(junctions.K1, [word.encode() for word in words])[0], (b"", said))
-    out, said = b.run("icuamend", "--help")
-    b.same("help", (out, said), (b.run("icuamend")[1], b""))
-    b.same("version", b.run("icuamend", "--version"), (version(), b""))
     no_such_sites(b, study)
-    for program in ("icusheet", "icustudy"):
-        b.same("help", b.run(program, "--help"), (b.run(program)[1], b""))
-        b.same("version", b.run(program, "--version"), (version(), b""))
+    for program, use in (("icusheet", SHEET_USE), ("icuamend", AMEND_USE), ("icustudy", STUDY_USE)):
+        b.same("help", b.run(program, "--help"), (use, b""))
+        b.same("version", b.run(program, "--version"), (VERSION, b""))
     for missing in ("nothing", ".", ""):
         b.same("missing", b.run("icusheet", missing), (b"", missing.encode() + b": cannot be read\n"))
     b.same("unwritable", b.run("icustudy", "make", ".", os.path.join(SAMPLES, "k1.txt")), (b"", b".: cannot be written\n"))
@@ -344,13 +385,13 @@ def sample_study(b):
     b.same("mended study", b.get("mended.icut"), study_of(sites[:10] + [mended]))
 
 
-def named(b):
-    """Every named junction, acceptable or not."""
-    sites = [entries for _, entries in junctions.all_junctions()]
+def named(b, these=junctions.all_junctions()):
+    """Every one that is named, acceptable or not."""
+    sites = [entries for _, entries in these]
     study = b.put("named.icut", study_of(sites))
-    for number, entries in enumerate(sites, 1):
-        b.same("named junction", b.run("icusheet", study, str(number)), table.site_alone(study.encode(), sites, number))
-    b.same("all of them", b.run("icusheet", study, "all"), all_pages(study, sites))
+    for number, (name, _) in enumerate(these, 1):
+        b.same("named: " + name, b.sheet(study, str(number)), table.site_alone(study.encode(), sites, number, b.kind))
+    b.same("all of them", b.sheet(study, "all"), all_pages(study, sites, b.kind))
 
 
 def correction(rng):
@@ -367,19 +408,20 @@ def correction(rng):
     return entry, rng.choice((least, most, rng.randint(least, most), rng.randint(least, min(most, least + 200))))
 
 
-def runs(b):
+def runs(b, these=junctions.all_junctions()):
     """Runs of changes, refused ones among them, each on the study that the last one left."""
-    for _, entries in junctions.all_junctions():
-        if icu2003.judge(entries) != (0, 0):
+    for _, entries in these:
+        if b.kind.judge(entries) != (0, 0):
             mending(b, entries)
             continue
-        study, sheet = b.put("run.icut", study_of([entries])), icu2003.fill(entries)
+        study, sheet = b.put("run.icut", study_of([entries])), b.kind.fill(entries)
         for entry, value in [correction(b.rng) for _ in range(16)]:
             before = list(sheet)
-            answer = icu2003.amend(sheet, entry, value)
-            b.same("a fresh fill", sheet, icu2003.fill(sheet[:ENTRIES]))
-            wanted = (b"", (table.refusal_text(*answer) + "\n").encode()) if answer[0] else (table.change_text(before, sheet).encode(), b"")
-            b.same("run", b.run("icuamend", study, "1", *named_value(entry, value), study), wanted)
+            answer = b.kind.amend(sheet, entry, value)
+            b.same("a fresh fill", sheet, b.kind.fill(sheet[:ENTRIES]))
+            changed = table.change_text(before, sheet, b.kind).encode()
+            wanted = (b"", (table.refusal_text(*answer) + "\n").encode()) if answer[0] else (changed, b"")
+            b.same("run", b.amend(study, "1", *named_value(entry, value), study), wanted)
             b.same("run's study", b.get("run.icut"), study_of([sheet[:ENTRIES]]))
 
 
@@ -390,8 +432,8 @@ def mending(b, entries):
     usual += [(movement_entry(3 * a + 1, LANES), 2) for a in range(4)] + [(approach_entry(a, SHARED_LANE), 0) for a in range(4)]
     for entry, value in [correction(b.rng) for _ in range(4)] + usual:
         words = named_value(entry, value)
-        wanted, after, made = several_changes(entries, [word.encode() for word in words])
-        b.same("mending", b.run("icuamend", study, "1", *words, study), wanted)
+        wanted, after, made = several_changes(entries, [word.encode() for word in words], b.kind)
+        b.same("mending", b.amend(study, "1", *words, study), wanted)
         entries = after
         b.same("mended", b.get("mend.icut"), study_of([entries]))
 
@@ -406,29 +448,29 @@ def any_title(rng):
 def typed(b):
     """Texts in any order and layout, with and without a title; and names that would steer a terminal."""
     for _ in range(150):
-        data = (any_title(b.rng) if b.rng.random() < 0.5 else b"") + loosely(b.rng, likely(b.rng))
+        data = (any_title(b.rng) if b.rng.random() < 0.5 else b"") + loosely(b.rng, likely_of(b))
         path = b.put("typed.txt", data)
-        b.same("typed", b.run("icusheet", path), typed_sheet(path, data))
+        b.same("typed", b.sheet(path), typed_sheet(path, data, b.kind))
     sites = [junctions.K1, junctions.changed(junctions.K1, {CYCLE: 29})]
     for name in ("a\x1b[31mb.txt", "x\x7f", "new\nline", "Stra\xdfe", "a b", "a: b, site 3 of 3", "n" * 200):
         path = b.put(name, b'title "Elm"\n' + table.write_text(junctions.K1).encode())
-        b.same("name", b.run("icusheet", path), typed_sheet(path, b.get(name)))
+        b.same("name", b.sheet(path), typed_sheet(path, b.get(name), b.kind))
         for study in (study_of(sites), old_study(sites)):
             b.put(name, study)
-            b.same("name of a study", b.run("icusheet", path, "all"), all_pages(path, sites))
+            b.same("name of a study", b.sheet(path, "all"), all_pages(path, sites, b.kind))
 
 
 def unread(b, data):
     """A text, whatever its bytes: its sheet or what is wrong; and no study is made of it if anything is."""
     path, study = b.put("text.txt", data), b.path("made.icut")
-    wanted = typed_sheet(path, data)
-    b.same("text", b.run("icusheet", path), wanted)
+    b.same("text", b.sheet(path), typed_sheet(path, data, b.kind))
     if os.path.exists(study):
         os.remove(study)
-    good = os.path.join(SAMPLES, "k2.txt")
-    out, said = b.run("icustudy", "make", study, good, path)
-    b.same("said of a study", (out, said), (b"", wanted[1]))
-    b.same("study made", os.path.exists(study), wanted[1] == b"")
+    # a study is made of junctions' texts, whatever the sheet is, and a study file is no text
+    said = table.said_of(data, table.JUNCTION.judge)
+    said = path.encode() + b": " + said.encode() if said else b""
+    b.same("said of a study", b.run("icustudy", "make", study, os.path.join(SAMPLES, "k2.txt"), path), (b"", said))
+    b.same("study made", os.path.exists(study), said == b"")
 
 
 def damaged_texts(b):
@@ -489,14 +531,14 @@ def shown_sites(b):
             out, said = b.run("icustudy", "show", study, str(number))
             b.same("shown", (out, said), (table.write_text(entries).encode(), b""))
             b.same("read back", table.parse(out)[0], entries)
-            b.same("sheet", b.run("icusheet", study, str(number)), table.site_alone(study.encode(), sites, number))
-        b.same("sheets", b.run("icusheet", study, "all"), all_pages(study, sites))
-        b.same("no text", b.run("icusheet", study), typed_sheet(study, data))
+            b.same("sheet", b.sheet(study, str(number)), table.site_alone(study.encode(), sites, number, b.kind))
+        b.same("sheets", b.sheet(study, "all"), all_pages(study, sites, b.kind))
+        b.same("no text", b.sheet(study), typed_sheet(study, data, b.kind))
 
 
 def damaged_studies(b):
     """Study files of both kinds with any damage."""
-    sites = [likely(b.rng) for _ in range(3)]
+    sites = [likely_of(b) for _ in range(3)]
     wholes = (study_of(sites), old_study([of_before(entries) for entries in sites]))
     wholes += tuple(opening + data[4:] for opening, data in zip((b"ICUS", b"ICUT"), wholes))
     for turn in range(220):
@@ -506,23 +548,23 @@ def damaged_studies(b):
         if answer == (0, 0):
             sites = icu2003.study_sites(data)
             if sites:
-                b.same("good study", b.run("icusheet", path, "all"), all_pages(path, sites))
+                b.same("good study", b.sheet(path, "all"), all_pages(path, sites, b.kind))
         else:
             wanted = b"", path.encode() + b": " + table.refusal_text(*answer).encode() + b"\n"
             for word in ("1", "all"):
-                b.same("bad study", b.run("icusheet", path, word), wanted)
+                b.same("bad study", b.sheet(path, word), wanted)
             b.same("bad study, shown", b.run("icustudy", "show", path, "1"), wanted)
-            b.same("bad study, amended", b.run("icuamend", path, "1", *CHANGE), wanted)
+            b.same("bad study, amended", b.amend(path, "1", *CHANGE), wanted)
 
 
 def full_studies(b):
     """As many sites as each kind holds; and one text too many."""
     for most, made in ((165, study_of), (180, old_study)):
-        full = [likely(b.rng) if most == 165 else of_before(likely(b.rng)) for _ in range(most)]
+        full = [likely_of(b) if most == 165 else of_before(likely_of(b)) for _ in range(most)]
         study = b.put("full.icut", made(full))
-        b.same("last of all", b.run("icusheet", study, str(most)), table.site_alone(study.encode(), full, most))
-        b.same("all of them", b.run("icusheet", study, "all"), all_pages(study, full))
-        b.same("one more", b.run("icusheet", study, str(most + 1)), (b"", b"%d: the study has %d sites\n" % (most + 1, most)))
+        b.same("last of all", b.sheet(study, str(most)), table.site_alone(study.encode(), full, most, b.kind))
+        b.same("all of them", b.sheet(study, "all"), all_pages(study, full, b.kind))
+        b.same("one more", b.sheet(study, str(most + 1)), (b"", b"%d: the study has %d sites\n" % (most + 1, most)))
     k1 = os.path.join(SAMPLES, "k1.txt")
     b.same("165 texts", b.run("icustudy", "make", b.path("most.icut"), *[k1] * 165), (b"", b""))
     b.same("165 sites", b.get("most.icut"), study_of([junctions.K1] * 165))
@@ -544,7 +586,7 @@ CONVERT_FIRST = b": a study of before (ICUS), which is not written any more: fir
 def amendments(b):
     """Changes of any entry to any value: what changes, and the changed study."""
     for _ in range(250):
-        sites = [likely(b.rng) for _ in range(b.rng.randint(1, 4))]
+        sites = [likely_of(b) for _ in range(b.rng.randint(1, 4))]
         site = b.rng.randrange(len(sites))
         entry = b.rng.choice((b.rng.randrange(ENTRIES), b.rng.randrange(ENTRIES), movement_entry(b.rng.randrange(12), icu2003.LANE_FACTOR)))
         value = pick(b.rng, entry) if b.rng.random() < 0.8 else b.rng.choice((b.rng.randrange(2**32), 1, 499, 1001))
@@ -552,22 +594,22 @@ def amendments(b):
         if os.path.exists(new):
             os.remove(new)
         words = [study, str(site + 1)] + named_value(entry, value) + [new]
-        before = icu2003.fill(sites[site]) if icu2003.judge(sites[site]) == (0, 0) else None
+        before = sheet_before(sites[site], b.kind)
         after = sites[site][:entry] + [value] + sites[site][entry + 1:]
-        answer = icu2003.judge(after)
+        answer = b.kind.judge(after)
         if answer == (0, 0):
             sites[site] = after
-            after = icu2003.fill(after)
-            wanted = table.change_text(before, after).encode(), b""
+            after = b.kind.fill(after)
+            wanted = table.change_text(before, after, b.kind).encode(), b""
             amended = list(before or after)
-            b.same("amended", (icu2003.amend(amended, entry, value), amended), ((0, 0), after))
+            b.same("amended", (b.kind.amend(amended, entry, value), amended), ((0, 0), after))
         else:
             wanted = b"", (table.refusal_text(*answer) + "\n").encode()
-        b.same("change", b.run("icuamend", *words), wanted)
+        b.same("change", b.amend(*words), wanted)
         b.same("new study", os.path.exists(new), answer == (0, 0))
         if answer == (0, 0):
             b.same("new study's bytes", b.get("new.icut"), study_of(sites))
-        b.same("old study", b.run("icuamend", *words[:-1]), wanted)
+        b.same("old study", b.amend(*words[:-1]), wanted)
     together(b)
     of_a_study_before(b)
 
@@ -577,15 +619,15 @@ def of_a_study_before(b):
     b.put("there.icut", study_of([K2]))
     b.put("text.txt", table.write_text(K2).encode())
     for _ in range(60):
-        sites = [of_before(likely(b.rng)) for _ in range(b.rng.randint(1, 4))]
+        sites = [of_before(likely_of(b)) for _ in range(b.rng.randint(1, 4))]
         site, words = b.rng.randrange(len(sites)), [word for _ in range(b.rng.choice((1, 1, 1, 2, 5))) for word in three_words(b.rng)]
         study = b.put("before.icus", old_study(sites))
-        b.same("on paper", b.run("icuamend", study, str(site + 1), *words), several_changes(sites[site], words)[0])
+        b.same("on paper", b.amend(study, str(site + 1), *words), several_changes(sites[site], words, b.kind)[0])
         was = b.held()
         for new in ("new.icut", "there.icut", "before.icus", "text.txt", "missing/new.icut", ""):
             said = study.encode() + CONVERT_FIRST
-            b.same("not written", b.run("icuamend", study, str(site + 1), *words, new and b.path(new)), (b"", said))
-            b.same("no such site", b.run("icuamend", study, "9", *words, new and b.path(new)), (b"", said))
+            b.same("not written", b.amend(study, str(site + 1), *words, new and b.path(new)), (b"", said))
+            b.same("no such site", b.amend(study, "9", *words, new and b.path(new)), (b"", said))
         b.same("all stays", b.held(), was)
 
 
@@ -605,27 +647,27 @@ def three_words(rng):
 def together(b):
     """Several changes in one call, refused ones and words that are none among them."""
     for count in list(range(1, CHANGES_MOST + 1)) * 4 + [CHANGES_MOST] * 20:
-        entries = likely(b.rng) if b.rng.random() < 0.8 else b.rng.choice(junctions.all_junctions())[1]
+        entries = likely_of(b) if b.rng.random() < 0.8 else b.rng.choice(junctions.all_junctions())[1]
         words = [word for _ in range(count) for word in three_words(b.rng)]
         study, new = b.put("many.icut", study_of([entries, junctions.K1])), b.path("new.icut")
         if os.path.exists(new):
             os.remove(new)
-        wanted, after, made = several_changes(entries, words)
-        b.same("several", b.run("icuamend", study, "1", *words), wanted)
-        b.same("several kept", b.run("icuamend", study, "1", *words, new), wanted)
+        wanted, after, made = several_changes(entries, words, b.kind)
+        b.same("several", b.amend(study, "1", *words), wanted)
+        b.same("several kept", b.amend(study, "1", *words, new), wanted)
         b.same("several's study", os.path.exists(new), made)
         if made:
             b.same("several's bytes", b.get("new.icut"), study_of([after, junctions.K1]))
         b.same("as it was", b.get("many.icut"), study_of([entries, junctions.K1]))
         if made and wanted[1]:
             stays = study.encode() + b": stays as it was, since not all that was asked for was done: name a new file\n"
-            b.same("not over a study", b.run("icuamend", study, "1", *words, study), (b"", wanted[1] + stays))
+            b.same("not over a study", b.amend(study, "1", *words, study), (b"", wanted[1] + stays))
             b.same("stays", b.get("many.icut"), study_of([entries, junctions.K1]))
     # the longest that can be said
     study = b.put("long.icut", study_of([junctions.K1]))
     words = [b"EBT", b"n" * table.WORD_MOST, b"1"] * CHANGES_MOST
-    wanted = several_changes(junctions.K1, words)[0]
-    b.same("longest", b.run("icuamend", study, "1", *words), wanted)
+    wanted = several_changes(junctions.K1, words, b.kind)[0]
+    b.same("longest", b.amend(study, "1", *words), wanted)
 
 
 # What is said where a file or standard output is not written.
@@ -900,11 +942,11 @@ def version():
         return ("icu2003 %s\n" % f.read().split('#define ICU2003_VERSION "')[1].split('"')[0]).encode()
 
 
-def each_apart(b, parts):
+def each_apart(b, parts, kind=table.JUNCTION):
     """Each part in a folder of its own."""
     for part in parts:
         with tempfile.TemporaryDirectory(dir=b.folder) as folder:
-            bench = Bench(folder, part.__name__)
+            bench = Bench(folder, part.__name__, kind)
             part(bench)
             b.count += bench.count
 
@@ -1392,8 +1434,157 @@ def office(b):
                    office_writes, office_rights, office_race))
 
 
+# ---------------------------------------------------------------- single point interchanges
+
+# A road whose throughs cross the arterial and whose lefts stand among them, which a junction may have and a single point may not.
+SHARED_ROAD = dict(points.all_points())["a shared lane that a junction may have, SB"]
+SHARED_SAID = b"R4: SB: a shared lane needs a through lane and no left lane beside it; a single point takes none\n"
+
+
+def point_usage(b):
+    """The word in front alone and before words that ask for nothing; help and version past it; and where it is no such word."""
+    for program, use, calls in (("icusheet", SHEET_USE, NO_SHEET), ("icuamend", AMEND_USE, NO_CHANGE)):
+        for words in calls:
+            b.same("use of " + program, b.run(program, "--point", *words), (b"", use))
+        for wish, told in (("--help", use), ("--version", VERSION)):
+            b.same(wish, b.run(program, "--point", wish), (told, b""))
+    for words in (["--point", "--point"], ["--Point"], ["-point"], ["--points"], ["--point "]):
+        b.same("a text of that name", b.run("icusheet", *words), (b"", words[-1].encode() + b": cannot be read\n"))
+    b.same("not in front", b.run("icusheet", "nothing", "--point"), (b"", b"nothing: cannot be read\n"))
+    b.same("not in front", b.run("icusheet", "nothing", "1", "--point"), (b"", SHEET_USE))
+    b.same("a study of that name", b.run("icuamend", "--point", "--point", "1", *CHANGE), (b"", b"--point: cannot be read\n"))
+    b.same("not in front", b.run("icuamend", "nothing", "--point", *CHANGE), (b"", b"nothing: cannot be read\n"))
+    b.same("text to begin with", b.run("icustudy", "point"), (table.write_text(points.start()).encode(), b""))
+    for name in ("a.txt", "point"):
+        b.put(name, table.write_text(SHARED_ROAD).encode())
+    for program, words in (("iculist", ["--point", "a.txt"]), ("icudiamond", ["--point"]), ("icuoffice", ["--point"])):
+        out, said = b.run_so(0, program, words)
+        b.same("unknown to " + program, (out, said.startswith(b"usage: " + program.encode())), (b"", True))
+    b.same("a study named point", b.run_so(0, "icustudy", ["make", "made", "point"]), (b"", b""))
+    b.same("its site", b.run_so(0, "icustudy", ["show", "made", "1"]), (table.write_text(SHARED_ROAD).encode(), b""))
+
+
+def point_samples(b):
+    """The samples as the repository holds them; their texts, a study of them, a change, and the text to begin with."""
+    made = b.path("made")
+    points.main(made)
+    names = sorted(os.listdir(made))
+    b.same("files of the samples", sorted(os.listdir(POINTS)), names)
+    for name in names:
+        with open(os.path.join(POINTS, name), "rb") as f:
+            b.same(name, f.read(), b.get(os.path.join("made", name)))
+    texts, named_points = [os.path.join(POINTS, name + ".txt") for name, _, _ in points.SAMPLES], dict(points.all_points())
+    sites, study = [named_points[which] for _, which, _ in points.SAMPLES], b.path("points.icut")
+    b.same("make", b.run("icustudy", "make", study, *texts), (b"", b""))
+    b.same("study", b.get("points.icut"), study_of(sites))
+    for number, (name, _, _) in enumerate(points.SAMPLES, 1):
+        b.same("typed " + name, b.sheet(texts[number - 1]), (b.get(os.path.join("made", name + ".sheet")), b""))
+        b.same("site " + name, b.sheet(study, str(number)), table.site_alone(study.encode(), sites, number, POINT))
+        b.same("as a junction " + name, b.run("icusheet", study, str(number)), table.site_alone(study.encode(), sites, number))
+        if name in points.AMENDMENTS:
+            words, printed = points.AMENDMENTS[name].split(), b.get(os.path.join("made", name + ".changes"))
+            b.same("change " + name, b.amend(study, str(number), *words), (printed, b""))
+            b.same("change kept", b.amend(study, str(number), *words, b.path("new.icut")), (printed, b""))
+            changed = [several_changes(entries, [word.encode() for word in words], POINT)[1] if at == number else entries
+                       for at, entries in enumerate(sites, 1)]
+            b.same("changed study", b.get("new.icut"), study_of(changed))
+    b.same("all of them", b.sheet(study, "all"), all_pages(study, sites, POINT))
+    text = os.path.join(POINTS, "start.txt")
+    b.same("start", b.run("icustudy", "point"), (b.get(os.path.join("made", "start.txt")), b""))
+    b.same("its page", b.sheet(text), typed_sheet(text, b.get(os.path.join("made", "start.txt")), POINT))
+
+
+def point_named(b):
+    """Every named single point and every named junction, as a single point; and the first as junctions."""
+    named(b, points.all_points())
+    named(b)
+    as_junctions = Bench(b.folder, "as junctions")
+    named(as_junctions, points.all_points())
+    b.count += as_junctions.count
+
+
+def point_texts(b):
+    """Texts that are refused, with line and column, those among them that a junction's sheet takes; and any bytes."""
+    shared, sample = table.write_text(SHARED_ROAD).encode(), table.brief_text("Elm and 3rd", points.book()).encode()
+    for data in (b"", shared, b'title "Elm"\n' + shared, sample, MARK + sample, MARK + shared, sample.replace(b"\n", b"\r\n"), b"EB shared-lane 1",
+                 b"EBT lanes 1\nEBL volume 5\nEB shared-lane 1 ", b"EBT lanes 1\n\tSB pedestrians 3 shared-lane 1\nNB shared-lane 01",
+                 b"WB\nshared-lane\n 1\nWBT volume 1", b"EB shared-lane 2", b"EB shared-lane 1 junction cycle 29", b"NBT volume 1", b"EB shared-lane",
+                 b"EBL volume 5\nEBT lanes 1", b"EB shared-lane 1 shared-lane 1", b"SB shared-lane 1\nNB shared-lane 1 EBL volume 1",
+                 b"EB shared-lane 0", b"EB shared-lane 1s", b"point", b"--point", b"single point: EBL lanes 1", b"EBL lane-factor 0.499", b"# EB shared-lane 1",
+                 study_of([]), study_of([points.book()]), old_study([junctions.K1]), study_of([points.book()])[:-1], b" " * 65536):
+        unread(b, data)
+    for _ in range(200):
+        unread(b, damaged(b.rng, b.rng.choice((sample, shared, table.write_text(likely_of(b)).encode()))))
+    for missing in ("nothing", ".", ""):
+        b.same("missing", b.sheet(missing), (b"", missing.encode() + b": cannot be read\n"))
+
+
+def point_sites(b):
+    """Sites that a study lacks, and texts for a study; a refused site alone and among others."""
+    sites = [points.book(), SHARED_ROAD, points.start(), junctions.changed(points.book(), {CYCLE: 29})]
+    study, text = b.put("four.icut", study_of(sites)), os.path.join(POINTS, "book4.txt")
+    for word in ("0", "5", "x", "", "ALL", "4294967296", "--point"):
+        b.same("no site", (b.sheet(study, word), b.amend(study, word, "EBQ", "volume", "1")), ((b"", word.encode() + b": the study has 4 sites\n"),) * 2)
+    b.same("none of none", b.sheet(b.put("none.icut", study_of([])), "all"), (b"", b"all: the study has 0 sites\n"))
+    for word in ("1", "all"):
+        b.same("no study file", b.sheet(text, word), (b"", text.encode() + b": R6: this is no study file\n"))
+    whose = b"%s, site 2" % study.encode()
+    b.same("a refused site", b.sheet(study, "2"), (b"", whose + b": " + SHARED_SAID))
+    pages = [table.sheet_text(icu2003.fill_point(sites[k]), POINT).encode() for k in (0, 2)]
+    heading, cycle = b"single point: " + study.encode() + b", site %d of 4\n\n", b"R3: junction cycle is outside 30 to 240\n"
+    printed = b"\f".join([heading % 1 + pages[0], heading % 2 + SHARED_SAID, heading % 3 + pages[1], heading % 4 + cycle])
+    b.same("among others", b.sheet(study, "all"), (printed, whose + b": " + SHARED_SAID + b"%s, site 4: " % study.encode() + cycle))
+    b.same("mended", b.amend(study, "2", "SB", "shared-lane", "0"), several_changes(SHARED_ROAD, [b"SB", b"shared-lane", b"0"], POINT)[0])
+    b.same("none before", b.amend(study, "2", "SB", "shared-lane", "0")[0].count(b"       none "), 175)
+    b.same("not another entry", b.amend(study, "2", "EBT", "volume", "450"), (b"", SHARED_SAID))
+    b.same("as a junction's", b.run("icuamend", study, "2", "EBT", "volume", "450"), several_changes(SHARED_ROAD, [b"EBT", b"volume", b"450"])[0])
+
+
+def point_words(b):
+    """What is said of the words of a change on a single point's sheet."""
+    study = b.put("s.icut", study_of([junctions.K1]))
+    for words, said in SAID_OF_CHANGES:
+        b.same("said", b.amend(study, "1", *words), (b"", said))
+    for word in ("EB", "WB", "NB", "SB"):
+        b.same("shared", b.amend(study, "1", word, "shared-lane", "1"), (b"", SHARED_SAID.replace(b"SB", word.encode())))
+
+
+def point_outputs(b):
+    """Standard output that is full or closed: said, and no file is written."""
+    b.put("in.icut", study_of([points.book(), junctions.K1]))
+    b.put("book4.txt", table.write_text(points.book()).encode())
+    for program, words in (("icusheet", ["--point", "book4.txt"]), ("icusheet", ["--point", "in.icut", "all"]), ("icusheet", ["--point", "--help"]),
+                           ("icuamend", ["--point", "in.icut", "1"] + CHANGE), ("icuamend", ["--point", "in.icut", "1"] + CHANGE + ["in.icut"]),
+                           ("icuamend", ["--point", "in.icut", "1"] + CHANGE + ["fresh.icut"]), ("icustudy", ["point"])):
+        was = b.held()
+        with open("/dev/full", "wb") as full:
+            b.same("full", b.run_so(0, program, words, out=full), (b"", program.encode() + NO_OUTPUT))
+        b.same("closed", b.run_so(0, program, words, before=lambda: os.close(1), out=None), (b"", program.encode() + NO_OUTPUT))
+        b.same("all stays", b.held(), was)
+    amending = ["--point", "in.icut", "1"] + CHANGE
+    for new, said in (("book4.txt", STAYS), (".", UNWRITTEN), ("missing/new.icut", UNWRITTEN)):
+        was = b.held()
+        b.same("in the way", b.run_so(0, "icuamend", amending + [new]), (b"", new.encode() + said))
+        b.same("all stays", b.held(), was)
+    printed, after, _ = several_changes(points.book(), [word.encode() for word in CHANGE], POINT)
+    b.same("in place", b.run_so(0, "icuamend", amending + ["in.icut"]), printed)
+    b.same("its study", b.get("in.icut"), study_of([after, junctions.K1]))
+
+
+def point_runs(b):
+    """Runs of changes of the named single points and of some junctions."""
+    runs(b, points.all_points())
+    runs(b, junctions.all_junctions()[::4])
+
+
+def point(b):
+    """A single point's sheet: all that icusheet and icuamend print and say of one, and the text that icustudy gives to begin with."""
+    each_apart(b, (point_usage, point_samples, point_named, typed, point_texts, point_sites, shown_sites, damaged_studies, full_studies, point_words,
+                   amendments, point_runs, point_outputs), POINT)
+
+
 PARTS = {"usage": usage, "samples": samples, "junctions": named, "runs": runs, "typed": typed, "damaged": damaged_texts, "studies": studies,
-         "amendments": amendments, "convert": convert, "kept": kept, "diamond": diamond, "office": office}
+         "amendments": amendments, "convert": convert, "kept": kept, "diamond": diamond, "office": office, "point": point}
 
 
 def main(part):

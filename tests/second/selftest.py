@@ -18,6 +18,7 @@ import diamonds
 import icu2003
 import junctions
 import offices
+import points
 import samples
 import studies
 import table
@@ -561,13 +562,17 @@ def again_right(compass, picked, name):
     return x["adjR"] + sum(again_waits(compass, picked, name)) if x["vCR"] else Fraction(0)
 
 
+def again_first_cells(x):
+    """Lines 1 to 18 of an approach as whole numbers."""
+    return ([x["vCL"], x["vCT"], x["vCR"], x["fT"] * 10000] + [x[k] / TENTH for k in ("sL", "sT", "sR", "sST", "sSL")]
+            + [x["intfR"] * 1000, x["intfT"] * 1000, x["freq"] * 10000]
+            + [x[k] * 1000 for k in ("refL", "refT", "refR", "adjL", "adjT", "adjR")])
+
+
 def again_cells(x):
     """The 28 lines of an approach as whole numbers."""
     blank = lambda t: BLANK if t is None else t * 1000
-    return ([x["vCL"], x["vCT"], x["vCR"], x["fT"] * 10000] + [x[k] / TENTH for k in ("sL", "sT", "sR", "sST", "sSL")]
-            + [x["intfR"] * 1000, x["intfT"] * 1000, x["freq"] * 10000]
-            + [x[k] * 1000 for k in ("refL", "refT", "refR", "adjL", "adjT", "adjR")]
-            + [x["vLL"], x["pLL"] * 10000, x["EL"] * 10000, x["sA"] / TENTH]
+    return (again_first_cells(x) + [x["vLL"], x["pLL"] * 10000, x["EL"] * 10000, x["sA"] / TENTH]
             + [blank(x[k]) for k in ("A", "B", "perm", "adjPerm", "split", "adjSplit")])
 
 
@@ -1126,6 +1131,473 @@ def check_pages():
             check("plans of " + name, [row[35:].replace(" ", "") for row in rows[57:60]], plans)
 
 
+# ---------------------------------------------------------------- single point interchanges
+
+POINTS = dict(points.all_points())
+SHARED_SAID = "R4: %s: a shared lane needs a through lane and no left lane beside it; a single point takes none"
+
+
+def point_of(name):
+    return icu2003.fill_point(POINTS[name])
+
+
+def point_lines(sheet, a, *which):
+    """Some lines of an approach."""
+    return [sheet[icu2003.point_cell(a, k)] for k in which]
+
+
+# Figure 10-8 line by line, as it is printed: of the twelve movements where there are as many, else of those that have the line.
+BOOK_4 = {
+    12: "500.0 2200.0 300.0 700.0 1500.0 800.0 800.0 0.0 200.0 900.0 0.0 800.0",
+    15: "3689.8 5448.0 1700.0 3689.8 5448.0 1700.0 3689.8 0.0 1700.0 3689.8 0.0 3009.0",
+    16: "0.0 1.5 0.0 0.0 0.0 0.0 0.0 0.0",
+    17: "33.0 0.0 0.0 0.0",
+    18: "16.3 48.5 21.2 22.8 33.0 56.5 26.0 0.0 14.1 29.3 0.0 31.9",
+    19: "24.3 54.5 27.2 30.8 39.0 62.5 34.0 0.0 20.1 37.3 0.0 37.9",
+    20: "85.2 37.3", 21: "122.5", 22: "27.2 62.5 20.1 37.9", 27: "27.2 86.7 111.8 37.9", 28: "102.1",
+}
+
+
+def ours_of_book_4():
+    """The same lines of our sheet, in the units of the page."""
+    sheet = point_of("book example 4")
+    each = lambda unit, *lines: [x / unit for a in range(4) for x in point_lines(sheet, a, *lines)]
+    return {12: each(1, 1, 2, 3), 15: each(10, 5, 6, 7), 16: each(1000, 11, 10), 17: each(100, 12), 18: each(1000, 13, 14, 15),
+            19: each(1000, 16, 17, 18), 20: [x / 1000 for x in sheet[165:167]], 21: [sheet[171] / 1000], 22: each(1000, 18),
+            27: [x / 1000 for x in sheet[167:171]], 28: [sheet[173] / 10]}
+
+
+def check_example_4():
+    sheet = point_of("book example 4")
+    for a, wanted in ((EB, [500, 2200, 300, 10000, 36898, 54480, 17000, 54480, 36898, 1469, 0, 3297, 16262, 48459, 22646, 24262, 54459, 28646]),
+                      (WB, [700, 1500, 800, 10000, 36898, 54480, 17000, 54480, 36898, 0, 0, 0, 22766, 33040, 56471, 30766, 39040, 62471]),
+                      (NB, [800, 0, 200, 10000, 36898, 0, 17000, 0, 36898, 0, 0, 0, 26018, 0, 14118, 34018, 0, 20118]),
+                      (SB, [900, 0, 800, 10000, 36898, 0, 30090, 0, 36898, 0, 0, 0, 29270, 0, 31905, 37270, 0, 37905])):
+        check("example 4, lines", point_lines(sheet, a, *range(1, 19)), wanted)
+    check("example 4, totals and the last eight", sheet[165:], [85225, 37270, 28646, 86733, 111847, 37905, 122495, 122495, 1021, 6])
+    check("example 4, beside", icu2003.point_beside(POINTS["book example 4"]), [0, 0, 0, 24262, 54459, 37270, 0, 0])
+    # all within half a tenth of what is printed, but for EBR: the book worked out an interference of 1.5 s there and left it out
+    forgotten = sheet[icu2003.point_cell(EB, 10)] / 1000
+    for line, ours in ours_of_book_4().items():
+        printed = [float(x) for x in BOOK_4[line].split()]
+        ebr = {18: 2, 19: 2, 22: 0, 27: 0}.get(line)
+        ours = [x - forgotten if at == ebr else x for at, x in enumerate(ours)]
+        check("example 4, line %d of the book" % line, [abs(x - y) <= 0.0501 for x, y in zip(ours, printed)], [True] * len(ours))
+        check("example 4, as many in line %d" % line, len(ours), len(printed))
+    # were EBR and SBR not free, they would wait as the page's lines 24 and 26 have it, though it adds them to nothing
+    check("example 4, rights held", icu2003.fill_point(junctions.changed(POINTS["book example 4"], {76: 0, 91: 0}))[167:171],
+          [28646 + 0 + 30766, 86733, 111847, 37905 + 39040 + 34018])
+
+
+def check_point_start():
+    """What a single point begins with: each entry at its place, acceptable, ICU 0 and A; nothing written over another length."""
+    entries = [7] * 93
+    check("starting answer", icu2003.point_start(entries), (0, 0))
+    wanted = [0] * 93
+    for m in range(12):
+        wanted[6 * m + 2], wanted[6 * m + 3] = 2000, 8000 if m % 3 == 0 else 6000
+    wanted[92] = 120
+    check("starting entries", entries, wanted)
+    for size in (0, 1, 81, 92, 94, 175, 221):
+        room = [7] * size
+        check("starting entries into %d" % size, (icu2003.point_start(room), room), ((1, 0), [7] * size))
+    check("acceptable", (icu2003.judge_point(entries), judge(entries)), ((0, 0), (0, 0)))
+    sheet = icu2003.fill_point(entries)
+    check("starting sheet", sheet[93:], 4 * ([0, 0, 0, 10000] + [0] * 14) + [0] * 10)
+    check("text to begin with", table.read_text(table.write_text(entries).encode(), icu2003.judge_point), entries)
+
+
+def check_point_layout():
+    entries = POINTS["every time its own"]
+    sheet = icu2003.fill_point(entries)
+    check("175", (len(sheet), 93 + 4 * 18 + 2 + 8), (175, 175))
+    check("entries first", sheet[:93], entries)
+    check("corners", (icu2003.point_cell(0, 1), icu2003.point_cell(0, 18), icu2003.point_cell(1, 1), icu2003.point_cell(3, 18)), (93, 110, 111, 164))
+    for a in range(4):
+        check("lines 16 to 18", sheet[93 + 18 * a + 15:93 + 18 * a + 18], list(points.TIMES[3 * a:3 * a + 3]))
+    ebl, ebt, ebr, wbl, wbt, wbr, nbl, nbt, nbr, sbl, sbt, sbr = points.TIMES
+    check("totals", sheet[165:167], [ebl + wbt, nbl + sbt])
+    check("rights and what they wait for", sheet[167:171], [ebr + sbt + wbl, wbr + nbt + ebl, nbr + ebt + sbl, sbr + wbt + nbl])
+    check("combined, required, ICU, letter", sheet[171:], [36666, 36666, 367, 0])
+    check("beside", icu2003.point_beside(entries), [sbt, wbl, nbt, ebl, ebt, sbl, wbt, nbl])
+
+
+def check_named_points():
+    for name, wanted in (
+            ("frontage roads", [59399, 47788, 74484, 100030, 76871, 30537, 107187, 107187, 894, 4]),
+            ("a frontage road on one side alone", [64454, 48262, 72186, 48186, 89728, 123119, 112716, 123119, 1026, 6]),
+            ("an arterial from north to south", [24262, 64454, 89728, 87825, 48186, 48186, 88716, 89728, 748, 3]),
+            ("people cross where nobody goes through", [55474, 40768, 67694, 0, 75324, 75120, 96242, 96242, 803, 3]),
+            ("people alone", [31000, 6000, 0, 0, 0, 0, 37000, 37000, 309, 0]),
+            ("EB right decides", [17034, 19632, 85130, 36087, 17117, 22547, 36666, 85130, 852, 4]),
+            ("WB right decides", [17034, 19632, 30137, 63024, 17117, 22547, 36666, 63024, 631, 1]),
+            ("NB right decides", [17034, 19632, 30137, 36087, 70070, 22547, 36666, 70070, 701, 2]),
+            ("SB right decides", [17034, 19632, 30137, 36087, 17117, 76544, 36666, 76544, 766, 3]),
+            ("NB right decides, free", [17034, 19632, 4007, 32063, 59000, 5003, 36666, 59000, 590, 1]),
+            ("a right turn alone", [0, 0, 59000, 0, 0, 0, 0, 59000, 590, 1]),
+            ("a right total as long as combined", [10000, 30000, 40000, 0, 0, 0, 40000, 40000, 400, 0]),
+            ("two right totals alike", [0, 0, 0, 50000, 50000, 0, 0, 50000, 500, 0]),
+            ("ICU 550 exactly", [54500, 500, 0, 0, 0, 0, 55000, 55000, 550, 0]),
+            ("one millisecond over 550", [54500, 501, 0, 0, 0, 0, 55001, 55001, 551, 1]),
+            ("K1", [39913, 39913, 0, 0, 0, 0, 79826, 79826, 666, 2]),
+            ("the slowest lanes", [9891647] * 2 + [15576875] * 4 + [19783294, 19783294, 82431, 7])):
+        check(name, point_of(name)[165:], wanted)
+    check("K1's lines", point_lines(point_of("K1"), NB, *range(1, 19)), lines(fill(junctions.K1), NB, *range(1, 19)))
+    quiet = POINTS["permitted would take less"]
+    check("protected all the same", (icu2003.fill_point(quiet)[171], [fill(quiet)[at] for at in (205, 208, 209, 212)]), (63275, [40148, 1, 23127, 1]))
+    counted = point_of("measured: the book's example 4")
+    check("measured flows", point_lines(counted, EB, 5, 6, 7), [2000 * 2 * 900 * 95 // 10000, 2000 * 3 * 907 // 100, 2000 * 914 * 85 // 10000])
+    right = point_of("measured: a right total decides")
+    check("a right decides by its factor", (right[172] == right[167], right[171] < right[172]), (True, True))
+    check("crossed where nobody goes through", point_lines(point_of("people cross where nobody goes through"), NB, 2, 14, 17), [0, 0, 23294])
+    check("no lane to cross", point_lines(point_of("people cross where no lane goes through"), NB, 17), [0])
+
+
+def check_point_refusals():
+    for size in (0, 81, 92, 94):
+        check("%d entries" % size, icu2003.judge_point((junctions.K1 * 2)[:size]), (1, 0))
+    for name, wanted in (
+            ("K2, shared lanes that a junction may have", (4, 0)), ("a shared lane that a junction may have, SB", (4, 3)),
+            ("a shared lane beside a left lane", (4, 1)), ("a shared lane without a through lane", (4, 2)),
+            ("a shared lane among the starting entries", (4, 0)), ("a shared lane of 2", (3, 82)), ("cycle 29, shared lanes besides", (3, 92)),
+            ("lost time out of range", (3, 21)), ("a lane factor of 499", (3, 71)), ("lefts without a lane", (5, 3)),
+            ("throughs without a lane", (5, 7)), ("rights without a lane", (5, 11)), ("rights in through lanes, which there are not", (5, 8)),
+            ("throughs without a lane, EB", (5, 1)), ("a free right of 2", (3, 91))):
+        check(name, icu2003.judge_point(POINTS[name]), wanted)
+    for entry in range(93):
+        least, largest = icu2003.limits(entry)
+        for value in {least - 1, largest + 1, BLANK} - {-1}:
+            check("entry %d as %d" % (entry, value), icu2003.judge_point(junctions.changed(POINTS["book example 4"], {entry: value})), (3, entry))
+    for which in range(1, 16):
+        lanes = {72 + 5 * a: 1 for a in range(4) if which >> a & 1}
+        lowest = (4, min(lanes) // 5 - 14)
+        for name in ("book example 4", "the starting entries", "K1"):
+            check("shared lanes %d" % which, icu2003.judge_point(junctions.changed(POINTS[name], lanes)), lowest)
+    for name, entries in NAMED.items():
+        answer, shared = judge(entries), [(4, a) for a in range(4) if entries[72 + 5 * a] == 1]
+        check("as a single point: " + name, icu2003.judge_point(entries), shared[0] if shared and answer[0] != 3 else answer)
+
+
+# ---------------------------------------------------------------- chapter 7 spelled again
+
+def again_point(entries):
+    """The cells and what stands beside them, from the book's shapes of chapter 7: 183 numbers."""
+    names = ("EB", "WB", "NB", "SB")
+    compass = {name: again_read(entries, a) for a, name in enumerate(names)}
+    for x in compass.values():
+        again_flows(x)
+        again_protected(x)
+    t_adj = {name + turn: compass[name]["adj" + turn] for name in names for turn in "LTR"}
+    t_prot_ew = max(t_adj["EBL"] + t_adj["WBT"], t_adj["WBL"] + t_adj["EBT"])
+    t_prot_ns = max(t_adj["NBL"] + t_adj["SBT"], t_adj["SBL"] + t_adj["NBT"])
+    line_27, waited = [], []
+    for name, cross, oncoming in (("EB", "SBT", "WBL"), ("WB", "NBT", "EBL"), ("NB", "EBT", "SBL"), ("SB", "WBT", "NBL")):
+        held = compass[name]["vCR"] > 0 and not compass[name]["free"]
+        waited += [t_adj[cross] if held else 0, t_adj[oncoming] if held else 0]
+        line_27.append(t_adj[name + "R"] + sum(waited[-2:]))
+    t_combined = t_prot_ew + t_prot_ns
+    most = max([t_combined] + line_27)
+    icu = up_to(Fraction(most, entries[92]), MS)
+    grade = next((i for i, end in enumerate((55, 64, 73, 82, 91, 100, 109)) if icu * 100 <= end), 7)
+    cells = list(entries) + [x for name in names for x in again_first_cells(compass[name])]
+    cells += [t * 1000 for t in [t_prot_ew, t_prot_ns] + line_27 + [t_combined, most, icu]] + [grade]
+    return cells + [t * 1000 for t in waited]
+
+
+def again_judge_point(e):
+    """All refusals of entries that apply to a single point, the first in order taken."""
+    others = [refusal for refusal in again_refusals(e) if refusal[0] != 4]
+    return min(others + [(4, a) for a in range(4) if e[72 + 5 * a] == 1], default=(0, 0))
+
+
+def random_point(rng):
+    """Acceptable entries of a single point: shared lanes are taken away, and their lefts where no lane is left for them."""
+    entries = random_entries(rng)
+    for a in range(4):
+        entries[72 + 5 * a] = 0
+        if entries[18 * a] == 0:
+            entries[18 * a + 1] = 0
+    return entries
+
+
+def check_point_stars(what, sheet):
+    """What has a star makes the number that it decides, and nothing else of its kind has one."""
+    starred = points.stars(sheet)
+    among = lambda cells: [sheet[i] for i in cells if i in starred]
+    for one, other, total in ((EB, WB, 165), (NB, SB, 166)):
+        ways = [{icu2003.point_cell(left, 16), icu2003.point_cell(through, 17)} for left, through in ((one, other), (other, one))]
+        alike = [starred & (ways[0] | ways[1]) == way for way in ways]
+        check(what + ", a left and the other's through", alike.count(True), 1)
+        check(what + ", sum", sum(among(sorted(ways[0] | ways[1]))), sheet[total])
+        check(what + ", the first on a tie", alike[1], sum(sheet[i] for i in ways[1]) > sum(sheet[i] for i in ways[0]))
+    check(what + ", both totals", {165, 166} <= starred, True)
+    check(what + ", last", among(range(167, 172)), [sheet[172]])
+    check(what + ", combined before a right", 171 in starred, sheet[171] == sheet[172])
+    check(what + ", so many", len(starred), 7)
+
+
+def check_points(rounds):
+    """Random single points against chapter 7 spelled again, and against the junction of the same entries."""
+    rng, seen = random.Random(175), set()
+    for name, entries in POINTS.items():
+        if icu2003.judge_point(entries) == (0, 0):
+            check("spelled again: " + name, icu2003.fill_point(entries) + icu2003.point_beside(entries), again_point(entries))
+            check_point_stars("stars: " + name, icu2003.fill_point(entries))
+    for i in range(rounds):
+        entries = random_point(rng)
+        check("acceptable", (icu2003.judge_point(entries), judge(entries)), ((0, 0), (0, 0)))
+        sheet, junction = icu2003.fill_point(entries), fill(entries)
+        check("spelled again, random %d" % i, sheet + icu2003.point_beside(entries), again_point(entries))
+        check_point_stars("stars, random %d" % i, sheet)
+        check("cells fit 32 bits", all(0 <= x <= BLANK for x in sheet), True)
+        for a in range(4):
+            check("lines 1 to 18 are a junction's", point_lines(sheet, a, *range(1, 19)), lines(junction, a, *range(1, 19)))
+            check("lines 8 and 9 are 6 and 5", point_lines(sheet, a, 8, 9), point_lines(sheet, a, 6, 5))
+        check("protected totals", sheet[165:167], [junction[205], junction[209]])
+        picks = (junction[208], junction[212])
+        if picks == (0, 0):
+            check("the same last eight", sheet[167:], junction[213:])
+        else:
+            check("never less than a junction's combined time", sheet[171] >= junction[217], True)
+        rights = sheet[167:171]
+        seen |= {picks == (0, 0), ("letter", sheet[174]), "right" if max(rights) > sheet[171] else "combined"}
+        for _ in range(rng.choice((0, 1, 1, 2, 3))):
+            entry = rng.choice((rng.randrange(93), 6 * rng.randrange(12), 6 * rng.randrange(12) + 5, 72 + 5 * rng.randrange(4)))
+            entries[entry] = rng.choice((pick_value(rng, entry), 0, 1, 1, 2, 7, 499, 1001, BLANK))
+        check("judge of a single point", icu2003.judge_point(entries), again_judge_point(entries))
+    check("turns that came up", {True, False, "right", "combined", ("letter", 0), ("letter", 7)} <= seen, True)
+
+
+# ---------------------------------------------------------------- a single point's amendments
+
+# The lines of the own approach that each kind of entry reaches, typed out: six kinds of a movement, five of an approach.
+POINT_REACHED = (range(1, 19), range(1, 19), range(1, 19), (16, 17, 18), (16, 17, 18), range(1, 19),
+                 range(1, 19), (10, 11, 12, 14, 15, 17, 18), (12, 17), (17,), ())
+
+
+def again_point_reach(entry):
+    """The cells that an entry reaches, by the list."""
+    if entry == 92:
+        return list(range(93, 175))
+    kind, a = (entry % 6, entry // 18) if entry < 72 else (6 + (entry - 72) % 5, (entry - 72) // 5)
+    own = [93 + 18 * a + line - 1 for line in POINT_REACHED[kind]]
+    return own + ([165 + a // 2] if kind != 10 else []) + list(range(167, 175))
+
+
+def check_point_amend_answers():
+    for entry in range(93):
+        check("reach of %d" % entry, icu2003.point_reach(entry), again_point_reach(entry))
+        junction = {(i - 93) // 28 * 18 + (i - 93) % 28 + 93 for i in reach(entry) if i < 205 and (i - 93) % 28 < 18}
+        check("a junction's reach, cut", {i for i in icu2003.point_reach(entry) if i < 165}, junction)
+    sizes = [len(icu2003.point_reach(entry)) for entry in (0, 1, 2, 3, 4, 5, 72, 73, 74, 75, 76, 92)]
+    check("sizes of the reach lists", sizes, [27, 27, 27, 12, 12, 27, 27, 16, 11, 10, 8, 82])
+    sheet = point_of("book example 4")
+    amending, kept = icu2003.amend_point, list(sheet)
+    for what, got, wanted in (
+            ("174 cells", amending(sheet[:174], 93, 1), (1, 0)), ("176 cells", amending(sheet + [0], 0, 9), (1, 0)),
+            ("a junction's sheet", amending(fill(junctions.K1), 0, 1), (1, 0)), ("no cells", amending([], 0, 1), (1, 0)),
+            ("entry 93", amending(sheet, 93, 1), (2, 0)), ("entry 174", amending(sheet, 174, 1), (2, 0)), ("out of range", amending(sheet, 92, 29), (3, 92)),
+            ("lane factor", amending(sheet, 5, 499), (3, 5)), ("shared", amending(sheet, 87, 1), (4, 3)), ("shared of 2", amending(sheet, 87, 2), (3, 87)),
+            ("no lane", amending(sheet, 6, 0), (5, 1)), ("no right lane and no through lane", amending(sheet, 48, 0), (5, 8)),
+            ("throughs without a lane", amending(sheet, 43, 1), (5, 7))):
+        check("amend, " + what, got, wanted)
+    check("nothing written", sheet, kept)
+    sheet[77] = 1
+    check("a shared lane elsewhere", (amending(sheet, 92, 90), amending(sheet, 82, 1)), ((4, 1), (4, 1)))
+    check("a shared lane typed off", (amending(sheet, 77, 0), sheet), ((0, 0), kept))
+    road = POINTS["frontage roads without lefts"]
+    check("a junction takes one", (amend(fill(road), 82, 1), amending(icu2003.fill_point(road), 82, 1)), ((0, 0), (4, 2)))
+
+
+def check_shared_off(rounds):
+    """The shared entry typed off on a sheet of any numbers: own lines 1 to 18, the pair's total and the last eight are fresh."""
+    rng = random.Random(77)
+    for _ in range(rounds // 10):
+        a, entries = rng.randrange(4), random_point(rng)
+        sheet = junctions.changed(entries, {72 + 5 * a: 1}) + [rng.randrange(BLANK + 1) for _ in range(82)]
+        before, fresh = list(sheet), icu2003.fill_point(entries)
+        check("refused before", icu2003.amend_point(sheet, 92, entries[92]), (4, a))
+        check("typed off", icu2003.amend_point(sheet, 72 + 5 * a, 0), (0, 0))
+        reached = {72 + 5 * a, 165 + a // 2, *range(93 + 18 * a, 111 + 18 * a), *range(167, 175)}
+        check("what is fresh then", sheet, [fresh[i] if i in reached else before[i] for i in range(175)])
+
+
+def check_point_reach(wanted):
+    """Amended sheets equal fresh ones: nothing outside the reach list needed a change."""
+    rng = random.Random(93175)
+    accepted, seen, refused = 0, set(), set()
+    while accepted < wanted:
+        sheet = icu2003.fill_point(random_point(rng))
+        for _ in range(6):
+            entry = rng.randrange(93)
+            value = pick_value(rng, entry)
+            before = list(sheet)
+            answer = icu2003.amend_point(sheet, entry, value)
+            if answer == (0, 0):
+                accepted += 1
+                seen.add(entry)
+                check("amend %d" % entry, sheet, icu2003.fill_point(before[:entry] + [value] + before[entry + 1:93]))
+            else:
+                refused.add(answer[0])
+                check("refused amendment writes nothing", sheet, before)
+    check("every entry was amended", len(seen), 93)
+    check("what refused some", refused, {4, 5})
+
+
+def check_point_history(rounds):
+    """On a sheet with any cells, reached ones become fresh and the others stay."""
+    rng = random.Random(82)
+    for _ in range(rounds):
+        sheet = random_point(rng) + [rng.randrange(BLANK + 1) for _ in range(82)]
+        if rng.random() < 0.2:
+            spoilt = rng.choice((rng.randrange(93), 72 + 5 * rng.randrange(4)))
+            sheet[spoilt] = rng.choice((1, 1, 2, 7, BLANK))
+        before, entry = list(sheet), rng.randrange(93)
+        value = before[entry] if rng.random() < 0.3 else pick_value(rng, entry)
+        answer = icu2003.amend_point(sheet, entry, value)
+        entries = before[:entry] + [value] + before[entry + 1:93]
+        check("answer", answer, again_judge_point(entries))
+        wanted = list(before)
+        if answer == (0, 0):
+            fresh = [int(x) for x in again_point(entries)]
+            for i in [entry] + again_point_reach(entry):
+                wanted[i] = fresh[i]
+        check("history, entry %d" % entry, sheet, wanted)
+
+
+# ---------------------------------------------------------------- a single point's page
+
+POINT_TITLES = """\
+no entry                     book :
+L  lanes                        2 n
+L  volume                       3 v
+L  ideal flow                   8 v
+L  lost time                    9 s
+L  minimum green               10 s
+L  lane factor                 13 F
+T  lanes                        2 n
+T  volume                       3 v
+T  ideal flow                   8 v
+T  lost time                    9 s
+T  minimum green               10 s
+T  lane factor                 13 F
+R  lanes                        2 n
+R  volume                       3 v
+R  ideal flow                   8 v
+R  lost time                    9 s
+R  minimum green               10 s
+R  lane factor                 13 F
+A  shared lane                  - n
+A  pedestrians                  4 p
+A  push button                  5 n
+A  pedestrian time              6 s
+A  free right                   7 n
+J  cycle, in seconds           11 n
+no line                      book :
+1  volume, left                12 v
+2  volume, through             12 v
+3  volume, right               12 v
+4  turning factor              14 f
+5  flow, left                  15 V
+6  flow, through               15 V
+7  flow, right                 15 V
+8  flow, separate through       - V
+9  flow, separate left          - V
+10 interference, right         16 s
+11 interference, through       16 s
+12 pedestrian frequency        17 f
+13 reference, left             18 s
+14 reference, through          18 s
+15 reference, right            18 s
+16 adjusted, left              19 s
+17 adjusted, through           19 s
+18 adjusted, right             19 s
+no pair                      book :
+P  protected                   20 s
+no junction                  book :
+R  right turns              22-27 s
+J  combined                    21 s
+J  required                    28 s
+J  ICU                         28 %
+J  level of service            29 A
+no beside the lines          book :
+R  cross through               24 s
+R  oncoming left               26 s
+"""
+
+
+def check_point_pages():
+    titles = POINT_TITLES.splitlines()
+    check("titles", [len(title) for title in titles], [35] * 55)
+    for name, entries in POINTS.items():
+        if icu2003.judge_point(entries) == (0, 0):
+            rows = table.sheet_text(icu2003.fill_point(entries), points.POINT).split("\n")
+            check("page of " + name, [len(row) for row in rows], [79] * 55 + [0])
+            check("titles of " + name, [row[:35] for row in rows[:-1]], titles)
+    page = table.sheet_text(point_of("book example 4"), points.POINT).split("\n")
+    for at, row in ((0, "         EB         WB         NB         SB"), (19, "          0          0          0          0"),
+                    (24, "        120                                 "), (41, "     24.262 *   30.766     34.018 *   37.270"),
+                    (42, " *   54.459     39.040 *    0.000      0.000"), (44, "      EB-WB      NB-SB                      "),
+                    (45, " *   85.225 *   37.270                      "), (47, "     28.646     86.733    111.847     37.905"),
+                    (48, " *  122.495                                 "), (50, "      102.1                                 "),
+                    (51, "          G                                 "), (53, "      0.000      0.000     54.459      0.000"),
+                    (54, "      0.000     24.262     37.270      0.000")):
+        check("row %d of example 4" % at, page[at][35:], row)
+    right = table.sheet_text(point_of("EB right decides"), points.POINT).split("\n")
+    check("a right total with a star", [right[at][35:57] for at in (47, 48)], [" *   85.130     36.087", "     36.666           "])
+
+
+def check_point_headings():
+    """Whose page it is, and what is said of a refused site: a single point is named in the heading alone."""
+    typed, sites = table.brief_text("Elm", POINTS["book example 4"]).encode(), [POINTS["book example 4"], NAMED["K2"]]
+    body = table.sheet_text(point_of("book example 4"), points.POINT).encode()
+    check("heading of a text", table.text_page(b"book4.txt", typed, points.POINT), b"single point: book4.txt: Elm\n\n" + body)
+    untitled = typed.split(b"\n", 1)[1]
+    check("heading without a title", table.text_page(b"a\x1b", untitled, points.POINT), b"single point: a?\n\n" + body)
+    check("heading of a site", table.site_alone(b"two.icut", sites, 1, points.POINT), (b"single point: two.icut, site 1 of 2\n\n" + body, b""))
+    said = SHARED_SAID.encode() % b"EB" + b"\n"
+    check("a refused site among others", table.site_page(b"two.icut", sites, 2, points.POINT),
+          (b"single point: two.icut, site 2 of 2\n\n" + said, b"two.icut, site 2: " + said))
+    check("a junction's heading", table.site_page(b"two.icut", sites, 2)[0][:24], b"two.icut, site 2 of 2\n\nn")
+
+
+def check_point_texts():
+    """What is said of texts that are read as a single point's, with line and column; a shared lane is one of a junction's only."""
+    junctions_own = "EBT lanes 1\nEBL volume 5\nEB shared-lane 1 "
+    for text, line, column, said in (
+            ("EB shared-lane 1", 1, 16, SHARED_SAID % "EB"), (junctions_own, 3, 16, SHARED_SAID % "EB"),
+            ("EBT lanes 1\n\tSB pedestrians 3 shared-lane 1\nNB shared-lane 01", 3, 16, SHARED_SAID % "NB"),
+            ("WB\nshared-lane\n 1\nWBT volume 1", 3, 2, SHARED_SAID % "WB"), ("EB shared-lane 2", 1, 16, "R3: EB shared-lane is outside 0 to 1"),
+            ("EB shared-lane 1 junction cycle 29", 1, 33, "R3: junction cycle is outside 30 to 240"),
+            ("NBT volume 1", 1, 12, "R5: NBT: vehicles, and no lane that takes them"),
+            ("EBL volume 5\nEBT lanes 1", 1, 12, "R5: EBL: vehicles, and no lane that takes them"),
+            ("EB shared-lane 1 shared-lane 1", 1, 18, "this entry was written before"), ("EB shared-lane", 1, 15, "the text ends where a value is expected"),
+            ("--point", 1, 1, '"--point": no movement, approach or entry has this name')):
+        check("said of " + text, table.said_of(text.encode(), icu2003.judge_point), "line %d, column %d: %s\n" % (line, column, said))
+    check("a junction may have it", table.said_of(junctions_own.encode()), "")
+    check("what is not written is a junction's usual", table.read_text(b"", icu2003.judge_point), table.USUAL)
+    check("said where a junction may not", table.said_of(b"EB shared-lane 1"), "line 1, column 16: " + SHARED_SAID % "EB" + "\n")
+
+
+def check_point_changes():
+    """What a change prints: the same rows, of the sheet's own lines; every cell where there was no sheet before."""
+    rows = points.changes(POINTS["book example 4"], "EBT lanes 4").splitlines()
+    titles = ["no changed cell              book :", "T  lanes                        2 n", "6  flow, through               15 V",
+              "8  flow, separate through       - V", "14 reference, through          18 s", "17 adjusted, through           19 s",
+              "P  protected                   20 s", "R  right turns              22-27 s", "J  combined                    21 s",
+              "J  required                    28 s", "J  ICU                         28 %", "J  level of service            29 A"]
+    check("titles of a change", [row[:35] for row in rows], titles)
+    for at, row in ((0, "      where     before      after           "), (6, "      EB-WB     85.225     73.110           "),
+                    (7, "         NB    111.847     99.732           "), (8, "               122.495    110.380           "),
+                    (11, "                     G          F           ")):
+        check("row %d of a change" % at, rows[at][35:], row)
+    check("free right of nobody", len(points.changes(POINTS["the starting entries"], "EB free-right 1").splitlines()), 4)
+    after = point_of("book example 4")
+    text = table.change_text(None, after, points.POINT).splitlines()
+    check("every cell", (len(text), {row[46:57] for row in text[1:]}), (176, {"       none"}))
+    check("the last of them", text[175], "J  level of service            29 A                  none          G           ")
+
+
 # ---------------------------------------------------------------- open studies
 #
 # The same once more, as a story: each place is free or has an owner, the entries it began with and its accepted changes.
@@ -1482,8 +1954,10 @@ def main(rounds):
     for part in (check_k1_k2, check_k3_to_k10, check_listing, check_letters, check_layout,
                  check_book_examples, check_named, check_bus_gates, check_measured, check_rows, check_closed_legs, check_refusals, check_decay,
                  check_amend_answers, check_study_places, check_long_files, check_study_write, check_runs, check_example_3, check_named_diamonds,
-                 check_diamond_refusals, check_pages, check_open_adds, check_open_amendments, check_open_reads, check_open_files,
-                 check_sample_offices, check_office_words):
+                 check_diamond_refusals, check_pages, check_example_4, check_point_start, check_point_layout, check_named_points,
+                 check_point_refusals, check_point_amend_answers, check_point_pages, check_point_headings, check_point_texts,
+                 check_point_changes, check_open_adds, check_open_amendments, check_open_reads, check_open_files, check_sample_offices,
+                 check_office_words):
         part()
     check_again(rounds)
     check_widened(rounds)
@@ -1496,6 +1970,10 @@ def main(rounds):
     check_values(rounds)
     check_ratio(rounds)
     check_diamonds(rounds)
+    check_points(rounds)
+    check_point_reach(wanted=2 * rounds)
+    check_point_history(rounds)
+    check_shared_off(rounds)
     check_offices(rounds)
     check_told(rounds)
     print("%(passed)d passed, %(failed)d failed" % counts)

@@ -207,7 +207,7 @@ def refusal_text(number, place):
     if number == 3:
         said = "%s is outside %s" % (entry_name(place), limits_text(place))
     elif number == 4:
-        said = "%s: a shared lane needs a through lane and no left lane beside it" % APPROACHES[place]
+        said = "%s: a shared lane needs a through lane and no left lane beside it; a single point takes none" % APPROACHES[place]
     elif number == 5:
         said = "%s: vehicles, and no lane that takes them" % GROUPS[place]
     elif number == 7:
@@ -225,22 +225,22 @@ def refusal_text(number, place):
     return "R%d: %s" % (number, said)
 
 
-def read_text(data):
-    """The entries of a text, or Wrong."""
+def read_text(data, judge=icu2003.judge):
+    """The entries of a text, or Wrong; they are judged as a junction's where nothing else is said."""
     if len(data) > TEXT_MOST:
         raise Wrong(TEXT_MOST - (len(data) - len(unmarked(data))), "a text has at most 65535 bytes")
     entries, places = parse(unmarked(data))
-    number, place = icu2003.judge(entries)
+    number, place = judge(entries)
     if number:
         entry = {3: place, 4: icu2003.approach_entry(place, 0), 5: icu2003.movement_entry(place, 1)}[number]
         raise Wrong(places[entry], refusal_text(number, place))
     return entries
 
 
-def said_of(data):
+def said_of(data, judge=icu2003.judge):
     """What is said of a text that cannot be read, with line and column; nothing of another."""
     try:
-        read_text(data)
+        read_text(data, judge)
     except Wrong as wrong:
         place, said = wrong.args
         before = unmarked(data)[:place]
@@ -337,49 +337,80 @@ def printed(row, fields):
     return title(row) + "".join("%11s" % f for f in fields).ljust(44) + "\n"
 
 
+FOUR, TWO, ONE = list(APPROACHES), list(PAIRS), [""]  # the names of a row's columns
+
+
+def entry_cell_rows(movement_rows, approach_rows, cycle_row):
+    """(row, the names of its columns, the cells in them) of the entries, which stand alike in each kind of sheet."""
+    rows = [(r, FOUR, [i + 18 * a for a in range(4)]) for i, r in enumerate(movement_rows)]
+    rows += [(r, FOUR, [icu2003.approach_entry(a, i) for a in range(4)]) for i, r in enumerate(approach_rows)]
+    return rows + [(cycle_row, ONE, [icu2003.CYCLE])]
+
+
+def last_cell_rows(right_row, rows, last):
+    """The same of the last eight."""
+    return [(right_row, FOUR, [last + a for a in range(4)])] + [(r, ONE, [last + 4 + i]) for i, r in enumerate(rows)]
+
+
 def cell_rows():
-    """(row, the names of its columns, the cells in them), in the order of the worksheet."""
-    four, pair, one = list(APPROACHES), list(PAIRS), [""]
-    rows = [(r, four, [i + 18 * a for a in range(4)]) for i, r in enumerate(ENTRY_ROWS)]
-    rows += [(r, four, [icu2003.approach_entry(a, i) for a in range(4)]) for i, r in enumerate(APPROACH_ROWS)]
-    rows += [(("J", "cycle, in seconds", "12", "n"), one, [icu2003.CYCLE])]
-    rows += [(r, four, [icu2003.cell(a, k) for a in range(4)]) for k, r in enumerate(LINE_ROWS, 1)]
-    rows += [(r, pair, [icu2003.PAIRS + i, icu2003.PAIRS + 4 + i]) for i, r in enumerate(PAIR_ROWS)]
-    rows += [(("R", "right turns", "45-50", "s"), four, [icu2003.LAST + a for a in range(4)])]
-    rows += [(r, one, [icu2003.LAST + 4 + i]) for i, r in enumerate(LAST_ROWS)]
-    return rows + [(r, four, [icu2003.CELLS + i + 5 * a for a in range(4)]) for i, r in enumerate(BESIDE_ROWS)]
+    """All of a junction's, in the order of the worksheet."""
+    rows = entry_cell_rows(ENTRY_ROWS, APPROACH_ROWS, ("J", "cycle, in seconds", "12", "n"))
+    rows += [(r, FOUR, [icu2003.cell(a, k) for a in range(4)]) for k, r in enumerate(LINE_ROWS, 1)]
+    rows += [(r, TWO, [icu2003.PAIRS + i, icu2003.PAIRS + 4 + i]) for i, r in enumerate(PAIR_ROWS)]
+    rows += last_cell_rows(("R", "right turns", "45-50", "s"), LAST_ROWS, icu2003.LAST)
+    return rows + [(r, FOUR, [icu2003.CELLS + i + 5 * a for a in range(4)]) for i, r in enumerate(BESIDE_ROWS)]
 
 
 HEADINGS = {0: "entry", 24: "line", 52: "pair", 56: "junction", 61: "beside the lines"}
 
 
+def sum_stars(cells, cell, one, other):
+    """The left and the through in the larger sum of a pair, the first approach's left on a tie; cell says where a line stands."""
+    larger = max(((one, other), (other, one)), key=lambda way: cells[cell(way[0], 16)] + cells[cell(way[1], 17)])
+    return {cell(larger[0], 16), cell(larger[1], 17)}
+
+
+def last_star(cells, last):
+    """Where the required time comes from: combined, or a right total that is larger."""
+    rights, combined = cells[last:last + 4], cells[last + 4]
+    return last + rights.index(max(rights)) if max(rights) > combined else last + 4
+
+
 def stars(cells):
     """The cells that decide: the larger sum of a pair, the option of an approach, the picked total, the largest of the last."""
     line = lambda a, k: cells[icu2003.cell(a, k)]
-    found = set()
+    found = {last_star(cells, icu2003.LAST)}
     for one, other, at in ((0, 1, icu2003.PAIRS), (2, 3, icu2003.PAIRS + 4)):
         if cells[at] != icu2003.BLANK:
-            left, through = max(((one, other), (other, one)), key=lambda way: line(way[0], 16) + line(way[1], 17))
-            found |= {icu2003.cell(left, 16), icu2003.cell(through, 17)}
+            found |= sum_stars(cells, icu2003.cell, one, other)
         found.add(at + cells[at + 3])
     for a in range(4):
         options = [(line(a, k), k) for k in (23, 24) if line(a, k) != icu2003.BLANK]
         if options and line(a, 1) + line(a, 2) > 0:
             found.add(icu2003.cell(a, min(options)[1]))
-    last = icu2003.LAST
-    rights, combined = cells[last:last + 4], cells[last + 4]
-    found.add(last + rights.index(max(rights)) if max(rights) > combined else last + 4)
     return found
 
 
-def sheet_text(sheet):
+class Kind:
+    """A kind of sheet: what stands before the heading of its page; how entries are judged, filled and amended, and what is worked beside
+    the cells; the rows of the page, where its sections begin, and the cells with a star; where the last eight begin."""
+
+    def __init__(self, front, judge, fill, amend, beside, rows, headings, stars, last):
+        self.front, self.judge, self.fill, self.amend, self.beside = front, judge, fill, amend, beside
+        self.rows, self.headings, self.stars, self.last = rows, headings, stars, last
+
+
+JUNCTION = Kind(b"", icu2003.judge, icu2003.fill, icu2003.amend, icu2003.beside, cell_rows(), HEADINGS, stars, icu2003.LAST)
+
+
+def sheet_text(sheet, kind=JUNCTION):
     """The whole worksheet of a filled sheet, with what stands beside it."""
-    cells = sheet + icu2003.beside(sheet[:icu2003.ENTRIES])
-    starred = stars(sheet)
+    cells = sheet + kind.beside(sheet[:icu2003.ENTRIES])
+    starred = kind.stars(sheet)
     out = []
-    for at, (row, columns, where) in enumerate(cell_rows()):
-        if at in HEADINGS:
-            out.append(printed(("no", HEADINGS[at], "book", ":"), columns))
+    for at, (row, columns, where) in enumerate(kind.rows):
+        if at in kind.headings:
+            out.append(printed(("no", kind.headings[at], "book", ":"), columns))
         fields = ["%11s" % shown(row[3], cells[i]) for i in where]
         for k, i in enumerate(where):
             if i in starred and fields[k][1] == " ":
@@ -388,12 +419,12 @@ def sheet_text(sheet):
     return "".join(out)
 
 
-def change_text(before, after):
+def change_text(before, after, kind=JUNCTION):
     """A row for each cell that changed, in the cells' order; the ICU and the letter in any case. Without a sheet before, every cell."""
-    found = {i: (row, name) for row, columns, where in cell_rows() for name, i in zip(columns, where)}
+    found = {i: (row, name) for row, columns, where in kind.rows for name, i in zip(columns, where)}
     out = [printed(("no", "changed cell", "book", ":"), ["where", "before", "after"])]
-    for i in range(icu2003.CELLS):
-        if before is None or before[i] != after[i] or i >= icu2003.LAST + 6:
+    for i in range(kind.last + 8):
+        if before is None or before[i] != after[i] or i >= kind.last + 6:
             row, name = found[i]
             held = "none" if before is None else shown(row[3], before[i])
             out.append(printed(row, [name, held, shown(row[3], after[i])]))
@@ -407,23 +438,24 @@ def shown_name(name):
     return bytes(63 if byte < 32 or byte == 127 else byte for byte in name)
 
 
-def text_page(name, data):
+def text_page(name, data, kind=JUNCTION):
     """The page of a text that can be read: its name and its title, and the worksheet."""
     title = titling(unmarked(data))[0]
-    return shown_name(name) + (b": " + title if title else b"") + b"\n\n" + sheet_text(icu2003.fill(read_text(data))).encode()
+    heading = kind.front + shown_name(name) + (b": " + title if title else b"")
+    return heading + b"\n\n" + sheet_text(kind.fill(read_text(data, kind.judge)), kind).encode()
 
 
-def site_page(name, sites, number):
+def site_page(name, sites, number, kind=JUNCTION):
     """The page of a site, counted from 1, and what is said of it: the worksheet, or why its entries are refused."""
-    whose, answer = shown_name(name) + b", site %d" % number, icu2003.judge(sites[number - 1])
+    whose, answer = shown_name(name) + b", site %d" % number, kind.judge(sites[number - 1])
     said = b"" if answer == (0, 0) else refusal_text(*answer).encode() + b"\n"
-    body = said or sheet_text(icu2003.fill(sites[number - 1])).encode()
-    return whose + b" of %d\n\n" % len(sites) + body, whose + b": " + said if said else b""
+    body = said or sheet_text(kind.fill(sites[number - 1]), kind).encode()
+    return kind.front + whose + b" of %d\n\n" % len(sites) + body, whose + b": " + said if said else b""
 
 
-def site_alone(name, sites, number):
+def site_alone(name, sites, number, kind=JUNCTION):
     """What is printed and said of one site: nothing is printed where it is refused."""
-    page, said = site_page(name, sites, number)
+    page, said = site_page(name, sites, number, kind)
     return b"" if said else page, said
 
 

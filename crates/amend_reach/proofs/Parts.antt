@@ -1,30 +1,33 @@
--- What is reached, part by part of the sheet.
+-- What is reached, part by part of a sheet.
 use mathlib.Core.Path.{_≡_}
 use mathlib.Core.Bool.{true}
 use Prim.Native.Nat.{ℕ, suc, _-_, _/_, _%_, _≤_, _<_}
 use native.Mathlib.Omega.{arith}
 use lib.Dec.{eqb}
 use borrow.Author.Tests.{lt-ltb, le-ltb}
+use Rattle.layout.specs.declared.Worksheet.{Worksheet}
 use Rattle.layout.specs.Entries.{entryCount}
 use Rattle.layout.specs.Sheet.{lineCount, linesFrom, pairCells, pairsFrom, lastFrom}
 use Rattle.kinds.specs.Kinds.{kindAt}
 use Rattle.amend_reach.specs.Reach.{reachOf, approachAt, reachedLine, reachedPair, reached}
 
-module _ (i k : ℕ) where
-  pub at-entry : k < entryCount → reached i k ≡ eqb k i
+module _ (k : Worksheet) (i j : ℕ) where
+  pub at-entry : j < entryCount → reached k i j ≡ eqb j i
   unfolding reached
-  at-entry h = rw (lt-ltb k entryCount h)
+  at-entry h = rw (lt-ltb j entryCount h)
 
   pub at-line :
-      linesFrom ≤ k → k < pairsFrom
-      → reached i k ≡ reachedLine (reachOf (kindAt i)) (approachAt i) ((k - linesFrom) / lineCount) (suc ((k - linesFrom) % lineCount))
+      linesFrom ≤ j → j < pairsFrom k
+      → reached k i j ≡ reachedLine (reachOf (kindAt i)) (approachAt i) ((j - linesFrom) / lineCount k) (suc ((j - linesFrom) % lineCount k))
   unfolding reached
-  at-line h p = rw (le-ltb k entryCount h, lt-ltb k pairsFrom p)
+  at-line h p = rw (le-ltb j entryCount h, lt-ltb j (pairsFrom k) p)
 
-  pub at-pair : pairsFrom ≤ k → k < lastFrom → reached i k ≡ reachedPair (reachOf (kindAt i)) (approachAt i) ((k - pairsFrom) / pairCells)
+  pub at-pair :
+      pairsFrom k ≤ j → j < lastFrom k
+      → reached k i j ≡ reachedPair (reachOf (kindAt i)) (approachAt i) ((j - pairsFrom k) / pairCells k)
   unfolding reached
-  at-pair h p = rw (le-ltb k entryCount (omega arith), le-ltb k pairsFrom h, lt-ltb k lastFrom p)
+  at-pair h p = rw (le-ltb j entryCount (omega arith), le-ltb j (pairsFrom k) h, lt-ltb j (lastFrom k) p)
 
-  pub at-last : lastFrom ≤ k → reached i k ≡ true
+  pub at-last : lastFrom k ≤ j → reached k i j ≡ true
   unfolding reached
-  at-last h = rw (le-ltb k entryCount (omega arith), le-ltb k pairsFrom (omega arith), le-ltb k lastFrom h)
+  at-last h = rw (le-ltb j entryCount (omega arith), le-ltb j (pairsFrom k) (omega arith), le-ltb j (lastFrom k) h)

@@ -7,7 +7,8 @@ use native.Mathlib.Decide.{decLt, ℕ-discrete}
 use native.Mathlib.Omega.{arith}
 use lib.Dec.{eqb}
 use lib.ListN.{length, getD, set}
-use borrow.Author.Tests.{eqb-true, eq-eqb, ne-eqb}
+use borrow.Author.Tests.{eqb-true, ne-eqb}
+use Rattle.layout.specs.declared.Worksheet.{Worksheet}
 use Rattle.layout.specs.Entries.{approachCount, cycleEntry, entryCount}
 use Rattle.layout.specs.Sheet.{lineCount, linesFrom, linesOf, pairCells, pairsFrom, pairOf, lastFrom, sheetCount}
 use Rattle.kinds.specs.Kinds.{kindAt}
@@ -17,82 +18,76 @@ use Rattle.amend_reach.specs.declared.Reach.{Reach}
 use Rattle.amend_reach.specs.Reach.{names, faces, reachOf, approachAt, reachedLine, reachedPair, reached, mergedFrom, merged}
 use Rattle.amend_reach.specs.Working.{run, runIf, linesNamed, SameRow, streetCells}
 use Rattle.amend_reach.proofs.Merging.{merged-one, merged-same, merged-again}
-use Rattle.amend_reach.proofs.Copies.{in-run, before-run, after-run}
+use Rattle.amend_reach.proofs.Blocks.{Placed, ends, line-placed, pair-placed}
+use Rattle.amend_reach.proofs.Copies.{in-run, before-run, after-run, block-run}
 use Rattle.amend_reach.proofs.Parts.{at-entry, at-line, at-pair, at-last}
 
--- lines of approach a, at line t + 1 of approach c
-lines-at :
-    (a c t k : ℕ) (test : ℕ → Bool) → k ≡ linesOf c + t → t < lineCount
-    → linesNamed (linesOf a) test k ≡ cond (eqb c a) (test (suc t)) false
-unfolding linesNamed
-lines-at a c t k test at h = go (ℕ-discrete c a) (decLt c a)
-  where
-    go :
-        Dec (c ≡ a) → Dec (c < a)
-        → (test (suc (k - linesOf a)) && run (linesOf a) (linesOf a + lineCount) k) ≡ cond (eqb c a) (test (suc t)) false
-    go (yes p) _ =
-        let line : k - linesOf a ≡ t = omega arith in
-        rw (eq-eqb c a p, in-run (linesOf a) (linesOf a + lineCount) k (omega arith) (omega arith), line) (and-true (test (suc t)))
-    go (no p) (yes q) = rw (ne-eqb c a p, before-run (linesOf a) (linesOf a + lineCount) k (omega arith)) (and-false (test (suc (k - linesOf a))))
-    go (no p) (no q) = rw (ne-eqb c a p, after-run (linesOf a) (linesOf a + lineCount) k (omega arith)) (and-false (test (suc (k - linesOf a))))
+module _ (k : Worksheet) where
+  -- lines of approach a, at line t + 1 of approach c
+  lines-at :
+      (a c t j : ℕ) (test : ℕ → Bool) → j ≡ linesOf k c + t → t < lineCount k
+      → linesNamed (lineCount k) (linesOf k a) test j ≡ cond (eqb c a) (test (suc t)) false
+  unfolding linesNamed
+  lines-at a c t j test at h = rw (block-run linesFrom (lineCount k) a c t j at h) (go (eqb c a) refl)
+    where
+      go : (own : Bool) → eqb c a ≡ own → (test (suc (j - linesOf k a)) && own) ≡ cond own (test (suc t)) false
+      go true p =
+          let here : j ≡ linesOf k a + t = rw (eqb-true c a p) at at in
+          let line : j - linesOf k a ≡ t = omega arith in
+          rw line (and-true (test (suc t)))
+      go false p = and-false (test (suc (j - linesOf k a)))
 
--- and where none of them stands
-before-lines : (first : ℕ) (test : ℕ → Bool) (k : ℕ) → k < first → linesNamed first test k ≡ false
-unfolding linesNamed
-before-lines first test k h = rw (before-run first (first + lineCount) k h) (and-false (test (suc (k - first))))
+  -- and where none of them stands
+  before-lines : (first : ℕ) (test : ℕ → Bool) (j : ℕ) → j < first → linesNamed (lineCount k) first test j ≡ false
+  unfolding linesNamed
+  before-lines first test j h = rw (before-run first (first + lineCount k) j h) (and-false (test (suc (j - first))))
 
-after-lines : (first : ℕ) (test : ℕ → Bool) (k : ℕ) → first + lineCount ≤ k → linesNamed first test k ≡ false
-unfolding linesNamed
-after-lines first test k h = rw (after-run first (first + lineCount) k h) (and-false (test (suc (k - first))))
+  after-lines : (first : ℕ) (test : ℕ → Bool) (j : ℕ) → first + lineCount k ≤ j → linesNamed (lineCount k) first test j ≡ false
+  unfolding linesNamed
+  after-lines first test j h = rw (after-run first (first + lineCount k) j h) (and-false (test (suc (j - first))))
 
-in-pair : (q k : ℕ) → pairsFrom ≤ k → run (pairOf q) (pairOf q + pairCells) k ≡ eqb ((k - pairsFrom) / pairCells) q
-in-pair q k h = go (decLt k (pairOf q)) (decLt k (pairOf q + pairCells))
-  where
-    go : Dec (k < pairOf q) → Dec (k < pairOf q + pairCells) → run (pairOf q) (pairOf q + pairCells) k ≡ eqb ((k - pairsFrom) / pairCells) q
-    go (yes p) _ = rw (before-run (pairOf q) (pairOf q + pairCells) k p) (sym (ne-eqb _ q (λ e. omega arith)))
-    go (no p) (yes r) = rw (in-run (pairOf q) (pairOf q + pairCells) k (omega arith) r) (sym (eq-eqb _ q (omega arith)))
-    go (no p) (no r) = rw (after-run (pairOf q) (pairOf q + pairCells) k (omega arith)) (sym (ne-eqb _ q (λ e. omega arith)))
+  -- a copy of the cells of m writes at j what a row reaches past the entries
+  pub record Writes (reach : Reach) (a : ℕ) (m : ℕ → Bool) (j : ℕ) : Type 0 where
+    pub entries : j < entryCount → m j ≡ false
+    pub lines :
+        linesFrom ≤ j → j < pairsFrom k → m j ≡ reachedLine reach a ((j - linesFrom) / lineCount k) (suc ((j - linesFrom) % lineCount k))
+    pub pairs : pairsFrom k ≤ j → j < lastFrom k → m j ≡ reachedPair reach a ((j - pairsFrom k) / pairCells k)
+    pub last : lastFrom k ≤ j → j < sheetCount k → m j ≡ true
 
--- a copy of the cells of m writes at k what a row reaches past the entries
-pub record Writes (reach : Reach) (a : ℕ) (m : ℕ → Bool) (k : ℕ) : Type 0 where
-  pub entries : k < entryCount → m k ≡ false
-  pub lines : linesFrom ≤ k → k < pairsFrom → m k ≡ reachedLine reach a ((k - linesFrom) / lineCount) (suc ((k - linesFrom) % lineCount))
-  pub pairs : pairsFrom ≤ k → k < lastFrom → m k ≡ reachedPair reach a ((k - pairsFrom) / pairCells)
-  pub last : lastFrom ≤ k → k < sheetCount → m k ≡ true
+  pub all-written : {reach : Reach} (a : ℕ) → reach .everywhere ≡ true → (j : ℕ) → Writes reach a (run linesFrom (sheetCount k)) j
+  unfolding reachedLine reachedPair
+  all-written a all j =
+      record {
+        entries = λ p. before-run linesFrom (sheetCount k) j p;
+        lines = λ h p. rw (in-run linesFrom (sheetCount k) j h (omega arith), all);
+        pairs = λ h p. rw (in-run linesFrom (sheetCount k) j (omega arith) (omega arith), all);
+        last = λ h p. in-run linesFrom (sheetCount k) j (omega arith) p;
+      }
 
-pub all-written : {reach : Reach} (a : ℕ) → reach .everywhere ≡ true → (k : ℕ) → Writes reach a (run linesFrom sheetCount) k
-unfolding reachedLine reachedPair
-all-written a all k =
-    record {
-      entries = λ p. before-run linesFrom sheetCount k p;
-      lines = λ h p. rw (in-run linesFrom sheetCount k h (omega arith), all);
-      pairs = λ h p. rw (in-run linesFrom sheetCount k (omega arith) (omega arith), all);
-      last = λ h p. in-run linesFrom sheetCount k (omega arith) p;
-    }
-
-module _ (reach : Reach) (a : ℕ) (few : a < approachCount) (quiet : reach .everywhere ≡ false) (k : ℕ) where
+module _ (k : Worksheet) (reach : Reach) (a : ℕ) (few : a < approachCount) (quiet : reach .everywhere ≡ false) (j : ℕ) where
   at-lines :
-      linesFrom ≤ k → k < pairsFrom → streetCells reach a k ≡ reachedLine reach a ((k - linesFrom) / lineCount) (suc ((k - linesFrom) % lineCount))
+      linesFrom ≤ j → j < pairsFrom k
+      → streetCells k reach a j ≡ reachedLine reach a ((j - linesFrom) / lineCount k) (suc ((j - linesFrom) % lineCount k))
   unfolding streetCells runIf reachedLine
   at-lines h p =
       rw (
-        before-run lastFrom sheetCount k (omega arith),
-        before-run (pairOf (a / 2)) (pairOf (a / 2) + pairCells) k (omega arith),
+        before-run (lastFrom k) (sheetCount k) j (omega arith),
+        before-run (pairOf k (a / 2)) (pairOf k (a / 2) + pairCells k) j (omega arith),
         and-false (reach .pair),
-        lines-at (opposite a) c t k (faces (reach .facing)) at (omega arith),
-        lines-at a c t k (names (reach .own)) at (omega arith),
+        lines-at k (opposite a) c t j (faces (reach .facing)) (at .is) (at .inside),
+        lines-at k a c t j (names (reach .own)) (at .is) (at .inside),
         quiet,
       )
       (go (eqb c a) refl (eqb c (opposite a)) refl)
     where
       c : ℕ
-      c = (k - linesFrom) / lineCount
+      c = (j - linesFrom) / lineCount k
 
       t : ℕ
-      t = (k - linesFrom) % lineCount
+      t = (j - linesFrom) % lineCount k
 
-      at : k ≡ linesOf c + t
-      at = omega arith
+      at : Placed linesFrom (lineCount k) approachCount j
+      at = line-placed k j h p
 
       own : Bool
       own = names (reach .own) (suc t)
@@ -108,37 +103,39 @@ module _ (reach : Reach) (a : ℕ) (few : a < approachCount) (quiet : reach .eve
       go false m true o = or-false facing
       go false m false o = refl
 
-  at-pairs : pairsFrom ≤ k → k < lastFrom → streetCells reach a k ≡ reachedPair reach a ((k - pairsFrom) / pairCells)
+  at-pairs : pairsFrom k ≤ j → j < lastFrom k → streetCells k reach a j ≡ reachedPair reach a ((j - pairsFrom k) / pairCells k)
   unfolding streetCells runIf reachedPair
   at-pairs h p =
-      let cell = reach .pair && eqb ((k - pairsFrom) / pairCells) (a / 2) in
+      let at = pair-placed k j h p in
+      let q = (j - pairsFrom k) / pairCells k in
+      let cell = reach .pair && eqb q (a / 2) in
       rw (
-        before-run lastFrom sheetCount k (omega arith),
-        in-pair (a / 2) k h,
-        after-lines (linesOf (opposite a)) (faces (reach .facing)) k (omega (arith, street a few .few)),
-        after-lines (linesOf a) (names (reach .own)) k (omega arith),
+        before-run (lastFrom k) (sheetCount k) j (omega arith),
+        block-run (pairsFrom k) (pairCells k) (a / 2) q ((j - pairsFrom k) % pairCells k) j (at .is) (at .inside),
+        after-lines k (linesOf k (opposite a)) (faces (reach .facing)) j (omega (arith, ends k (opposite a) (street a few .few))),
+        after-lines k (linesOf k a) (names (reach .own)) j (omega (arith, ends k a few)),
         quiet,
         or-false cell,
         or-false cell,
       )
-      (and-comm (reach .pair) (eqb ((k - pairsFrom) / pairCells) (a / 2)))
+      (and-comm (reach .pair) (eqb q (a / 2)))
 
-  at-entries : k < entryCount → streetCells reach a k ≡ false
+  at-entries : j < entryCount → streetCells k reach a j ≡ false
   unfolding streetCells runIf
   at-entries h =
       rw (
-        before-run lastFrom sheetCount k (omega arith),
-        before-run (pairOf (a / 2)) (pairOf (a / 2) + pairCells) k (omega arith),
+        before-run (lastFrom k) (sheetCount k) j (omega arith),
+        before-run (pairOf k (a / 2)) (pairOf k (a / 2) + pairCells k) j (omega arith),
         and-false (reach .pair),
-        before-lines (linesOf (opposite a)) (faces (reach .facing)) k (omega arith),
-        before-lines (linesOf a) (names (reach .own)) k (omega arith),
+        before-lines k (linesOf k (opposite a)) (faces (reach .facing)) j (omega arith),
+        before-lines k (linesOf k a) (names (reach .own)) j (omega arith),
       )
 
-  at-end : lastFrom ≤ k → k < sheetCount → streetCells reach a k ≡ true
+  at-end : lastFrom k ≤ j → j < sheetCount k → streetCells k reach a j ≡ true
   unfolding streetCells
-  at-end h p = rw (in-run lastFrom sheetCount k h p)
+  at-end h p = rw (in-run (lastFrom k) (sheetCount k) j h p)
 
-  pub street-written : Writes reach a (streetCells reach a) k
+  pub street-written : Writes k reach a (streetCells k reach a) j
   street-written = record { entries = at-entries; lines = at-lines; pairs = at-pairs; last = at-end }
 
 pub same-row : {r s : Reach} → SameRow r s → r ≡ s
@@ -147,23 +144,24 @@ same-row {r} {s} (own, facing, pair, everywhere) =
     parts ∙ rw (own, facing, pair, everywhere)
 
 -- what a copy of those cells makes of a sheet in which the entry itself is fresh
-module _ (fresh old : List ℕ) (same : length fresh ≡ length old) (long : length old ≡ sheetCount) (i : ℕ) (hi : i < entryCount) where
+module _ (k : Worksheet) (fresh old : List ℕ) (same : length fresh ≡ length old) (long : length old ≡ sheetCount k) (i : ℕ) (hi : i < entryCount) where
   pub all-renewed :
-      {m : ℕ → Bool} → ((k : ℕ) → Writes (reachOf (kindAt i)) (approachAt i) m k)
-      → mergedFrom m 0 fresh (set old i (getD fresh i 0)) ≡ merged i fresh old
+      {m : ℕ → Bool} → ((j : ℕ) → Writes k (reachOf (kindAt i)) (approachAt i) m j)
+      → mergedFrom m 0 fresh (set old i (getD fresh i 0)) ≡ merged k i fresh old
   all-renewed {m} writes =
       rw (merged-one (λ j. eqb j i) fresh old same i (λ j. refl) (omega arith))
       (merged-again (λ j. eqb j i) m 0 fresh old
-      ∙ merged-same (λ j. m j || eqb j i) fresh old same (reached i) (λ k h. go k (rw long at h) (decLt k entryCount) (decLt k pairsFrom) (decLt k lastFrom)))
+      ∙ merged-same (λ j. m j || eqb j i) fresh old same (reached k i)
+      (λ j h. go j (rw long at h) (decLt j entryCount) (decLt j (pairsFrom k)) (decLt j (lastFrom k))))
     where
-      past : (k : ℕ) {t : Bool} → entryCount ≤ k → m k ≡ t → (m k || eqb k i) ≡ t
-      past k h is = rw (ne-eqb k i (λ e. omega arith)) (or-false (m k) ∙ is)
+      past : (j : ℕ) {t : Bool} → entryCount ≤ j → m j ≡ t → (m j || eqb j i) ≡ t
+      past j h is = rw (ne-eqb j i (λ e. omega arith)) (or-false (m j) ∙ is)
 
-      go : (k : ℕ) → k < sheetCount → Dec (k < entryCount) → Dec (k < pairsFrom) → Dec (k < lastFrom) → (m k || eqb k i) ≡ reached i k
-      go k h (yes p) _ _ = rw (writes k .entries p) (sym (at-entry i k p))
-      go k h (no o) (yes p) _ = past k (omega arith) (writes k .lines (omega arith) p) ∙ sym (at-line i k (omega arith) p)
-      go k h (no o) (no n) (yes p) = past k (omega arith) (writes k .pairs (omega arith) p) ∙ sym (at-pair i k (omega arith) p)
-      go k h (no o) (no n) (no p) = past k (omega arith) (writes k .last (omega arith) h) ∙ sym (at-last i k (omega arith))
+      go : (j : ℕ) → j < sheetCount k → Dec (j < entryCount) → Dec (j < pairsFrom k) → Dec (j < lastFrom k) → (m j || eqb j i) ≡ reached k i j
+      go j h (yes p) _ _ = rw (writes j .entries p) (sym (at-entry k i j p))
+      go j h (no o) (yes p) _ = past j (omega arith) (writes j .lines (omega arith) p) ∙ sym (at-line k i j (omega arith) p)
+      go j h (no o) (no n) (yes p) = past j (omega arith) (writes j .pairs (omega arith) p) ∙ sym (at-pair k i j (omega arith) p)
+      go j h (no o) (no n) (no p) = past j (omega arith) (writes j .last (omega arith) h) ∙ sym (at-last k i j (omega arith))
 
 -- an entry that does not reach everywhere is not the cycle
 pub not-cycle : (i : ℕ) → i < entryCount → reachOf (kindAt i) .everywhere ≡ false → i < cycleEntry

@@ -1,14 +1,15 @@
-// What an amendment of one entry reaches.
+// What an amendment of one entry reaches, on a sheet of either kind.
 ghost use mathlib.Core.Path.{_≡_};
 ghost use mathlib.Core.Bool.{true};
-ghost use Prim.Native.Nat.{_+_, _≤_, _<_};
+ghost use Prim.Native.Nat.{_+_, _/_, _≤_, _<_, min};
 ghost use lib.ListN.{length};
 ghost use Rattle.layout.specs.Entries.{approachCount, cycleEntry, entryCount};
-ghost use Rattle.layout.specs.Sheet.{lineCount, sheetCount};
+ghost use Rattle.layout.specs.Sheet.{lineCount, linesOf, pairOf, sheetCount};
 ghost use Rattle.sheet_cells.specs.Cells.{opposite};
-ghost use Rattle.amend_reach.specs.Reach.{among, names, reachOf, approachAt, mergedFrom, merged};
+ghost use Rattle.amend_reach.specs.Reach.{among, names, lastFacing, reachOf, approachAt, mergedFrom, merged};
 ghost use Rattle.amend_reach.specs.Working.{run, runIf, linesNamed, areLines, SameRow, streetCells};
 use kinds::Kind;
+use layout::Worksheet;
 
 // Lines of an approach that the rules name together.
 pub enum Named {
@@ -154,32 +155,38 @@ fn copy_if(wanted: bool, sheet: &mut [u32], fresh: &[u32], from: usize, to: usiz
     }
 }
 
-// Writes the fresh lines that a list names, of those whose first stands at a cell.
-fn copy_lines(sheet: &mut [u32], fresh: &[u32], first: usize, lines: &[usize])
-    requires { ⌜ (length (now fresh) ≡ length (now sheet)) × (first + lineCount ≤ length (now sheet)) × (areLines (now lines) ≡ true) ⌝ }
-    ensures { λ _. ⌜ now (sheet .exit) ≡ mergedFrom (linesNamed first (λ k. among k (now (lines .entry)))) 0 (now (fresh .entry)) (now (sheet .entry)) ⌝ }
+// Writes the fresh lines that a list names, of those whose first stands at a cell; a line that the kind has not is passed over.
+fn copy_lines(kind: Worksheet, sheet: &mut [u32], fresh: &[u32], first: usize, lines: &[usize])
+    requires { ⌜ (length (now fresh) ≡ length (now sheet)) × (first + lineCount kind ≤ length (now sheet)) × (areLines (now lines) ≡ true) ⌝ }
+    ensures { λ _. ⌜ now (sheet .exit)
+        ≡ mergedFrom (linesNamed (lineCount kind) first (λ n. among n (now (lines .entry)))) 0 (now (fresh .entry)) (now (sheet .entry)) ⌝ }
 {
+    let last = kind.lines();
     let mut i = 0;
     while i < lines.len() {
-        let cell = first + lines[i] - 1;
-        sheet[cell] = fresh[cell];
+        let line = lines[i];
+        if line <= last {
+            let cell = first + line - 1;
+            sheet[cell] = fresh[cell];
+        }
         i += 1;
     }
 }
 
 // Each list has a function of its own, so that it is made only where it is read.
-fn copy_times(sheet: &mut [u32], fresh: &[u32], first: usize)
-    requires { ⌜ (length (now fresh) ≡ length (now sheet)) × (first + lineCount ≤ length (now sheet)) ⌝ }
-    ensures { λ _. ⌜ now (sheet .exit) ≡ mergedFrom (linesNamed first (names Named.Times)) 0 (now (fresh .entry)) (now (sheet .entry)) ⌝ }
+fn copy_times(kind: Worksheet, sheet: &mut [u32], fresh: &[u32], first: usize)
+    requires { ⌜ (length (now fresh) ≡ length (now sheet)) × (first + lineCount kind ≤ length (now sheet)) ⌝ }
+    ensures { λ _. ⌜ now (sheet .exit) ≡ mergedFrom (linesNamed (lineCount kind) first (names Named.Times)) 0 (now (fresh .entry)) (now (sheet .entry)) ⌝ }
 {
-    copy_lines(sheet, fresh, first, &[16, 17, 18, 26, 28]);
+    copy_lines(kind, sheet, fresh, first, &[16, 17, 18, 26, 28]);
 }
 
-fn copy_walkers(sheet: &mut [u32], fresh: &[u32], first: usize)
-    requires { ⌜ (length (now fresh) ≡ length (now sheet)) × (first + lineCount ≤ length (now sheet)) ⌝ }
-    ensures { λ _. ⌜ now (sheet .exit) ≡ mergedFrom (linesNamed first (names Named.Walkers)) 0 (now (fresh .entry)) (now (sheet .entry)) ⌝ }
+fn copy_walkers(kind: Worksheet, sheet: &mut [u32], fresh: &[u32], first: usize)
+    requires { ⌜ (length (now fresh) ≡ length (now sheet)) × (first + lineCount kind ≤ length (now sheet)) ⌝ }
+    ensures { λ _. ⌜ now (sheet .exit) ≡ mergedFrom (linesNamed (lineCount kind) first (names Named.Walkers)) 0 (now (fresh .entry)) (now (sheet .entry)) ⌝ }
 {
     copy_lines(
+        kind,
         sheet,
         fresh,
         first,
@@ -187,66 +194,93 @@ fn copy_walkers(sheet: &mut [u32], fresh: &[u32], first: usize)
     );
 }
 
-fn copy_button(sheet: &mut [u32], fresh: &[u32], first: usize)
-    requires { ⌜ (length (now fresh) ≡ length (now sheet)) × (first + lineCount ≤ length (now sheet)) ⌝ }
-    ensures { λ _. ⌜ now (sheet .exit) ≡ mergedFrom (linesNamed first (names Named.Button)) 0 (now (fresh .entry)) (now (sheet .entry)) ⌝ }
+fn copy_button(kind: Worksheet, sheet: &mut [u32], fresh: &[u32], first: usize)
+    requires { ⌜ (length (now fresh) ≡ length (now sheet)) × (first + lineCount kind ≤ length (now sheet)) ⌝ }
+    ensures { λ _. ⌜ now (sheet .exit) ≡ mergedFrom (linesNamed (lineCount kind) first (names Named.Button)) 0 (now (fresh .entry)) (now (sheet .entry)) ⌝ }
 {
-    copy_lines(sheet, fresh, first, &[12, 17, 26, 28]);
+    copy_lines(kind, sheet, fresh, first, &[12, 17, 26, 28]);
 }
 
-fn copy_crossing(sheet: &mut [u32], fresh: &[u32], first: usize)
-    requires { ⌜ (length (now fresh) ≡ length (now sheet)) × (first + lineCount ≤ length (now sheet)) ⌝ }
-    ensures { λ _. ⌜ now (sheet .exit) ≡ mergedFrom (linesNamed first (names Named.Crossing)) 0 (now (fresh .entry)) (now (sheet .entry)) ⌝ }
+fn copy_crossing(kind: Worksheet, sheet: &mut [u32], fresh: &[u32], first: usize)
+    requires { ⌜ (length (now fresh) ≡ length (now sheet)) × (first + lineCount kind ≤ length (now sheet)) ⌝ }
+    ensures { λ _. ⌜ now (sheet .exit) ≡ mergedFrom (linesNamed (lineCount kind) first (names Named.Crossing)) 0 (now (fresh .entry)) (now (sheet .entry)) ⌝ }
 {
-    copy_lines(sheet, fresh, first, &[17, 26, 28]);
+    copy_lines(kind, sheet, fresh, first, &[17, 26, 28]);
 }
 
-// Writes the lines that are named together, of those whose first stands at a cell.
-fn copy_named(sheet: &mut [u32], fresh: &[u32], named: Named, first: usize)
-    requires { ⌜ (length (now fresh) ≡ length (now sheet)) × (first + lineCount ≤ length (now sheet)) ⌝ }
-    ensures { λ _. ⌜ now (sheet .exit) ≡ mergedFrom (linesNamed first (names named)) 0 (now (fresh .entry)) (now (sheet .entry)) ⌝ }
+// Writes the lines that are named together, of those of the kind whose first stands at a cell.
+fn copy_named(kind: Worksheet, sheet: &mut [u32], fresh: &[u32], named: Named, first: usize)
+    requires { ⌜ (length (now fresh) ≡ length (now sheet)) × (first + lineCount kind ≤ length (now sheet)) ⌝ }
+    ensures { λ _. ⌜ now (sheet .exit) ≡ mergedFrom (linesNamed (lineCount kind) first (names named)) 0 (now (fresh .entry)) (now (sheet .entry)) ⌝ }
 {
     match named {
-        Named::All => copy_run(sheet, fresh, first, first + layout::LINES),
-        Named::Times => copy_times(sheet, fresh, first),
-        Named::Walkers => copy_walkers(sheet, fresh, first),
-        Named::Button => copy_button(sheet, fresh, first),
-        Named::Crossing => copy_crossing(sheet, fresh, first),
+        Named::All => copy_run(sheet, fresh, first, first + kind.lines()),
+        Named::Times => copy_times(kind, sheet, fresh, first),
+        Named::Walkers => copy_walkers(kind, sheet, fresh, first),
+        Named::Button => copy_button(kind, sheet, fresh, first),
+        Named::Crossing => copy_crossing(kind, sheet, fresh, first),
         Named::NoLine => {}
     }
 }
 
+// The cell of an approach's first line.
+fn lines_of(kind: Worksheet, approach: usize) -> usize
+    requires { ⌜ approach < approachCount ⌝ }
+    ensures { λ r. ⌜ r ≡ linesOf kind approach ⌝ }
+{
+    layout::LINES_FROM + kind.lines() * approach
+}
+
+// The first cell of an approach's pair.
+fn pair_of(kind: Worksheet, approach: usize) -> usize
+    requires { ⌜ approach < approachCount ⌝ }
+    ensures { λ r. ⌜ r ≡ pairOf kind (approach / 2) ⌝ }
+{
+    kind.pairs_from() + kind.pair_cells() * (approach / 2)
+}
+
+// Where the facing lines end: with the kind's last line at the latest, so that a single point has none of them.
+fn facing_to(kind: Worksheet) -> usize
+    ensures { λ r. ⌜ r ≡ min lastFacing (lineCount kind) ⌝ }
+{
+    let lines = kind.lines();
+    if FACING_TO <= lines {
+        return FACING_TO;
+    }
+    lines
+}
+
 // Writes the fresh cells that an entry of an approach reaches, but for the entry itself.
-fn renew_street(sheet: &mut [u32], fresh: &[u32], reach: Reach, approach: usize)
-    requires { ⌜ (length (now sheet) ≡ sheetCount) × (length (now fresh) ≡ sheetCount) × (approach < approachCount) ⌝ }
-    ensures { λ _. ⌜ now (sheet .exit) ≡ mergedFrom (streetCells reach approach) 0 (now (fresh .entry)) (now (sheet .entry)) ⌝ }
+fn renew_street(kind: Worksheet, sheet: &mut [u32], fresh: &[u32], reach: Reach, approach: usize)
+    requires { ⌜ (length (now sheet) ≡ sheetCount kind) × (length (now fresh) ≡ sheetCount kind) × (approach < approachCount) ⌝ }
+    ensures { λ _. ⌜ now (sheet .exit) ≡ mergedFrom (streetCells kind reach approach) 0 (now (fresh .entry)) (now (sheet .entry)) ⌝ }
 {
     let own = reach.own;
-    let lines = layout::LINES_FROM + layout::LINES * approach;
-    copy_named(sheet, fresh, own, lines);
-    let across = layout::LINES_FROM + layout::LINES * opposite_of(approach);
+    copy_named(kind, sheet, fresh, own, lines_of(kind, approach));
+    let across = lines_of(kind, opposite_of(approach));
     copy_if(
         reach.facing,
         sheet,
         fresh,
         across + FACING_FROM - 1,
-        across + FACING_TO,
+        across + facing_to(kind),
     );
-    let pair = layout::PAIRS_FROM + layout::PAIR_CELLS * (approach / 2);
-    copy_if(reach.pair, sheet, fresh, pair, pair + layout::PAIR_CELLS);
-    copy_run(sheet, fresh, layout::LAST_FROM, layout::CELLS);
+    let pair = pair_of(kind, approach);
+    copy_if(reach.pair, sheet, fresh, pair, pair + kind.pair_cells());
+    let last = kind.last_from();
+    copy_run(sheet, fresh, last, kind.cells());
 }
 
 // Writes the fresh cells that the amendment of an entry reaches; the others stay, whatever they held.
-pub fn renew(sheet: &mut [u32], fresh: &[u32], entry: usize)
-    requires { ⌜ (length (now sheet) ≡ sheetCount) × (length (now fresh) ≡ sheetCount) × (entry < entryCount) ⌝ }
-    ensures { λ _. ⌜ now (sheet .exit) ≡ merged entry (now (fresh .entry)) (now (sheet .entry)) ⌝ }
+pub fn renew(kind: Worksheet, sheet: &mut [u32], fresh: &[u32], entry: usize)
+    requires { ⌜ (length (now sheet) ≡ sheetCount kind) × (length (now fresh) ≡ sheetCount kind) × (entry < entryCount) ⌝ }
+    ensures { λ _. ⌜ now (sheet .exit) ≡ merged kind entry (now (fresh .entry)) (now (sheet .entry)) ⌝ }
 {
     sheet[entry] = fresh[entry];
     let reach = Reach::of(Kind::at(entry));
     if reach.everywhere {
-        copy_run(sheet, fresh, layout::LINES_FROM, layout::CELLS);
+        copy_run(sheet, fresh, layout::LINES_FROM, kind.cells());
         return;
     }
-    renew_street(sheet, fresh, reach, approach_at(entry));
+    renew_street(kind, sheet, fresh, reach, approach_at(entry));
 }

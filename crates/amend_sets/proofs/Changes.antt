@@ -9,6 +9,7 @@ use lib.Dec.{ltb}
 use lib.ListN.{length, getD, set, drop, length-set, length-drop}
 use lib.Seq.{drop-cons}
 use borrow.Author.Tests.{ltb-false}
+use Rattle.layout.specs.declared.Worksheet.{Worksheet}
 use Rattle.layout.specs.Entries.{cycleEntry, entryCount}
 use Rattle.answers.specs.Answers.{_then_}
 use Rattle.answers.specs.declared.Refusal.{Refusal}
@@ -107,25 +108,25 @@ module _ (xs : List ℕ) where
   made-all n h m = sym (m .is ∙ rw (no-more n h))
 
   -- renewed so far: the cells that those left reach are still to be renewed
-  pub record Renewed (fresh old cells : List ℕ) (n : ℕ) : Type 0 where
+  pub record Renewed (k : Worksheet) (fresh old cells : List ℕ) (n : ℕ) : Type 0 where
     pub known : entriesAnswer (changesFrom n) ≡ Accepted
-    pub copying : Copying (someReaches (changesOf xs)) (someReaches (changesFrom n)) fresh old cells
+    pub copying : Copying (someReaches k (changesOf xs)) (someReaches k (changesFrom n)) fresh old cells
 
   pub renewed-one :
-      {fresh old cells : List ℕ} (n : ℕ) → n < length xs / 2 → Renewed fresh old cells n
-      → Renewed fresh old (merged (getD xs (2 * n) 0) fresh cells) (n + 1)
+      {k : Worksheet} {fresh old cells : List ℕ} (n : ℕ) → n < length xs / 2 → Renewed k fresh old cells n
+      → Renewed k fresh old (merged k (getD xs (2 * n) 0) fresh cells) (n + 1)
   unfolding someReaches
-  renewed-one n h r =
+  renewed-one {k} n h r =
       let entry = getD xs (2 * n) 0 in
       record {
         known = next-entry n h (r .known) .1;
         copying =
-            some-copied (someReaches (changesFrom (n + 1))) (reached entry)
-            (λ k. rw (next-change n h) (or-comm (reached entry k) (someReaches (changesFrom (n + 1)) k))) (r .copying);
+            some-copied (someReaches k (changesFrom (n + 1))) (reached k entry)
+            (λ j. rw (next-change n h) (or-comm (reached k entry j) (someReaches k (changesFrom (n + 1)) j))) (r .copying);
       }
 
   pub renewed-all :
-      {fresh old cells : List ℕ} (n : ℕ) → length xs / 2 ≤ n → Renewed fresh old cells n
-      → cells ≡ mergedFrom (someReaches (changesOf xs)) 0 fresh old
+      {k : Worksheet} {fresh old cells : List ℕ} (n : ℕ) → length xs / 2 ≤ n → Renewed k fresh old cells n
+      → cells ≡ mergedFrom (someReaches k (changesOf xs)) 0 fresh old
   unfolding someReaches
-  renewed-all n h r = all-copied (λ k. rw (no-more n h)) (r .copying)
+  renewed-all n h r = all-copied (λ j. rw (no-more n h)) (r .copying)

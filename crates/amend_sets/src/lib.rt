@@ -2,7 +2,7 @@
 //
 // They come as one list: an entry, its new value, the next entry and so on.
 ghost use mathlib.Core.Path.{_≡_};
-ghost use Prim.Native.Nat.{_<_};
+ghost use Prim.Native.Nat.{_≤_};
 ghost use lib.ListN.{length};
 ghost use Rattle.layout.specs.Entries.{entryCount};
 ghost use Rattle.layout.specs.Sheet.{sheetCount};
@@ -12,6 +12,7 @@ ghost use Rattle.amend_sets.specs.Amend.{withChanges, entriesWith, entry
 ghost use Rattle.amend_sets.specs.Working.{changesOf};
 use answers::Answer;
 use answers::Refusal;
+use layout::Worksheet;
 
 // Whether there is such an entry.
 pub fn check_entry(entry: u32) -> Answer
@@ -53,7 +54,7 @@ fn change(entries: &mut [u32], changes: &[u32])
 
 // A sheet's entries as they would stand with the changes made.
 fn entries_with(sheet: &[u32], changes: &[u32], entries: &mut [u32; layout::ENTRIES])
-    requires { ⌜ (length (now sheet) ≡ sheetCount) × (entriesAnswer (changesOf (now changes)) ≡ Accepted) ⌝ }
+    requires { ⌜ (entryCount ≤ length (now sheet)) × (entriesAnswer (changesOf (now changes)) ≡ Accepted) ⌝ }
     ensures { λ _. ⌜ now (entries .exit) ≡ entriesWith (now (sheet .entry)) (changesOf (now (changes .entry))) ⌝ }
 {
     lists::put(entries, 0, &sheet[..layout::ENTRIES]);
@@ -61,11 +62,16 @@ fn entries_with(sheet: &[u32], changes: &[u32], entries: &mut [u32; layout::ENTR
 }
 
 // Judges a sheet's entries as they would stand with the changes made, and leaves them so where they are accepted.
-pub fn judge_changed(sheet: &[u32], changes: &[u32], entries: &mut [u32; layout::ENTRIES]) -> Answer
-    ensures { λ r. ⌜ r ≡ togetherAnswer (now (sheet .entry)) (changesOf (now (changes .entry))) ⌝ }
+pub fn judge_changed(
+    kind: Worksheet,
+    sheet: &[u32],
+    changes: &[u32],
+    entries: &mut [u32; layout::ENTRIES],
+) -> Answer
+    ensures { λ r. ⌜ r ≡ togetherAnswer kind (now (sheet .entry)) (changesOf (now (changes .entry))) ⌝ }
     ensures { λ r. ⌜ (r ≡ Accepted → now (entries .exit) ≡ entriesWith (now (sheet .entry)) (changesOf (now (changes .entry)))) ⌝ }
 {
-    let size = sheet_cells::check_sheet(sheet);
+    let size = sheet_cells::check_sheet(kind, sheet);
     let Answer::Accepted = size else {
         return size;
     };
@@ -74,17 +80,17 @@ pub fn judge_changed(sheet: &[u32], changes: &[u32], entries: &mut [u32; layout:
         return known;
     };
     entries_with(sheet, changes, entries);
-    entries::judge(entries)
+    entries::judge(kind, entries)
 }
 
 // Writes the fresh cells that some change reaches; the others stay, whatever they held.
-pub fn renew_changed(sheet: &mut [u32], fresh: &[u32], changes: &[u32])
-    requires { ⌜ (length (now sheet) ≡ sheetCount) × (length (now fresh) ≡ sheetCount) × (entriesAnswer (changesOf (now changes)) ≡ Accepted) ⌝ }
-    ensures { λ _. ⌜ now (sheet .exit) ≡ mergedFrom (someReaches (changesOf (now (changes .entry)))) 0 (now (fresh .entry)) (now (sheet .entry)) ⌝ }
+pub fn renew_changed(kind: Worksheet, sheet: &mut [u32], fresh: &[u32], changes: &[u32])
+    requires { ⌜ (length (now sheet) ≡ sheetCount kind) × (length (now fresh) ≡ sheetCount kind) × (entriesAnswer (changesOf (now changes)) ≡ Accepted) ⌝ }
+    ensures { λ _. ⌜ now (sheet .exit) ≡ mergedFrom (someReaches kind (changesOf (now (changes .entry)))) 0 (now (fresh .entry)) (now (sheet .entry)) ⌝ }
 {
     let mut n = 0;
     while n < changes.len() / 2 {
-        amend_reach::renew(sheet, fresh, changes[2 * n] as usize);
+        amend_reach::renew(kind, sheet, fresh, changes[2 * n] as usize);
         n += 1;
     }
 }

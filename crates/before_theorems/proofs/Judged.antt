@@ -15,6 +15,7 @@ use Rattle.answers.specs.declared.Refusal.{Refusal}
 use Rattle.answers.specs.declared.Refusal.the-variants.{Size, Range, Shared, NoLane}
 use Rattle.answers.specs.declared.Answer.the-variants.{Accepted}
 use Rattle.answers.proofs.Laws.{go-on, both-accepted, not-refused, accepts, each-accepted, all-accepted}
+use Rattle.layout.specs.declared.Worksheet.the-variants.{Junction}
 use Rattle.layout.specs.Entries.{approachCount, groupCount, movementCount, movementEntries, factorNo, approachesFrom, approachEntries, cycleEntry, entryCount}
 use Rattle.layout.specs.Entries.{left, through, lanesNo, volumeNo, sharedNo, movementPlace, approachPlace}
 use Rattle.kinds.specs.declared.Group.{Group}
@@ -22,7 +23,7 @@ use Rattle.kinds.specs.declared.Group.the-variants.{Left, Through, Right}
 use Rattle.kinds.specs.Kinds.{inRange, kindAt, movementKind, approachKind, groupOf}
 use Rattle.kinds.specs.declared.Kind.the-variants.{Cycle}
 use Rattle.entries.specs.Layout.{movementEntry, approachEntry}
-use Rattle.entries.specs.Judging.{sizeAnswer, outside, badlyShared, otherLanes, unserved, judged}
+use Rattle.entries.specs.Judging.{sizeAnswer, outside, badlyShared, otherLanes, unserved, judgedFor, judged}
 use Rattle.study_before.specs.Before.{movementBefore, approachesBefore, cycleBefore, entriesBefore, widened}
 use Rattle.study_before.proofs.Laws.{length-widened, of-movement, of-factor, past-movements}
 use Rattle.before_theorems.specs.Before.{ofMovement, ofApproach, kindThen, outsideThen, badlySharedThen, otherLanesThen, unservedThen, judgedThen}
@@ -99,7 +100,7 @@ module _ (e : List ℕ) where
             rw is at (within-rest (p - approachesFrom) (omega arith))
 
   -- SHARED and NOLANE ask the same numbers
-  shared-kept : (a : ℕ) → a < approachCount → badlyShared (widened e) a ≡ badlySharedThen e a
+  shared-kept : (a : ℕ) → a < approachCount → badlyShared Junction (widened e) a ≡ badlySharedThen e a
   unfolding badlyShared badlySharedThen
   shared-kept a few =
       rw (
@@ -124,7 +125,7 @@ module _ (e : List ℕ) where
       )
 
   pub acceptable-kept : judgedThen e ≡ Accepted → judged (widened e) ≡ Accepted
-  unfolding judgedThen judged sizeAnswer
+  unfolding judgedThen judgedFor sizeAnswer
   acceptable-kept ok =
       let sized = both-accepted (refuse-if (not (eqb (length e) entriesBefore)) Size 0) _ ok in
       let first = both-accepted (lowest (outsideThen e) Range 0 entriesBefore) _ (sized .1) in
@@ -134,5 +135,5 @@ module _ (e : List ℕ) where
       let served = none-found (unservedThen e) NoLane movementCount (second .1) in
       go-on _ (accepts Size 0 (ap not (eq-eqb (length (widened e)) entryCount (length-widened e))))
       ∙ go-on _ (none-there (outside (widened e)) Range entryCount (range-kept ranged))
-      ∙ go-on _ (none-there (badlyShared (widened e)) Shared approachCount (λ a h. shared-kept a h ∙ shared a h))
+      ∙ go-on _ (none-there (badlyShared Junction (widened e)) Shared approachCount (λ a h. shared-kept a h ∙ shared a h))
       ∙ none-there (unserved (widened e)) NoLane movementCount (λ m h. unserved-kept m h ∙ served m h)

@@ -17,15 +17,16 @@ use Rattle.study_before.specs.Before.{movementBefore, widened}
 use Rattle.study_before.proofs.Laws.{length-widened, of-factor, past-movements}
 use Rattle.procedure.specs.declared.Approach.{Approach}
 use Rattle.procedure.specs.Approach.{measured, readMovement, readApproach}
-use Rattle.procedure.specs.Lines.{flowOf, factor, flow, sST, sSL}
-use Rattle.procedure.specs.Sheet.{linesAt, pairAt, rightAt, lastAt, sheet}
+use Rattle.procedure.specs.Lines.{flowOf, factor, flow, sST, sSL, linesFor}
+use Rattle.procedure.specs.Pairs.{pairFor}
+use Rattle.procedure.specs.Sheet.{linesAt, pairAt, rightAt, lastAt, sheetFor, sheet}
 use Rattle.procedure.proofs.Reading.{is-movement, is-approach}
 use Rattle.before_theorems.specs.Before.{ofMovement, movementThen, ofApproach, approachThen, cycleThen, ByTheTable, cellsBy, cellsThen}
 use Rattle.before_theorems.proofs.Judged.{own, side}
 
 -- a sheet is its entries and those cells
 pub sheet-cells : (e : List ℕ) → sheet e ≡ e ++ cellsBy (readApproach e) (cycle e)
-unfolding sheet cellsBy linesAt pairAt rightAt lastAt
+unfolding sheetFor cellsBy linesAt linesFor pairAt pairFor rightAt lastAt
 sheet-cells e = append-assoc e _ _
 
 -- the approaches that are read from widened entries

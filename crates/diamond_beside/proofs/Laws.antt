@@ -7,6 +7,7 @@ use native.Mathlib.Omega.{arith}
 use Rattle.answers.specs.Answers.{left-by}
 use Rattle.answers.specs.declared.Answer.the-variants.{Accepted}
 use Rattle.lists.specs.Lists.{table}
+use Rattle.layout.specs.declared.Worksheet.the-variants.{Junction}
 use Rattle.layout.specs.Sheet.{sheetCount}
 use Rattle.layout.specs.Diamond.{storagesFrom, storageCount, diamondCount, pageOwn, pageCells}
 use Rattle.entries.proofs.Laws.{accepted-count}
@@ -58,11 +59,11 @@ module _ (r : List ℕ) where
       )
 
   module _ (ok : judgedRecord r ≡ Accepted) where
-    pub west-sheet : length (sheet (west r)) ≡ sheetCount
-    west-sheet = sheet-length (west r) (accepted-count (west r) (west-accepted r ok))
+    pub west-sheet : length (sheet (west r)) ≡ sheetCount Junction
+    west-sheet = sheet-length Junction (west r) (accepted-count (west r) (west-accepted r ok))
 
-    pub east-sheet : length (sheet (east r)) ≡ sheetCount
-    east-sheet = sheet-length (east r) (accepted-count (east r) (east-accepted r ok))
+    pub east-sheet : length (sheet (east r)) ≡ sheetCount Junction
+    east-sheet = sheet-length Junction (east r) (accepted-count (east r) (east-accepted r ok))
 
     pub sheets-length : length (sheet (west r) ++ sheet (east r)) ≡ pageOwn
     sheets-length = omega (arith, west-sheet, east-sheet, length-append (sheet (west r)) (sheet (east r)))

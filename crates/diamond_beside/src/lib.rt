@@ -6,6 +6,7 @@ ghost use mathlib.Core.Bool.{cond};
 ghost use lib.ListN.{length, drop};
 ghost use Rattle.answers.specs.declared.Answer.the-variants.{Accepted};
 ghost use Rattle.lists.specs.Lists.{over};
+ghost use Rattle.layout.specs.declared.Worksheet.the-variants.{Junction};
 ghost use Rattle.layout.specs.Sheet.{sheetCount};
 ghost use Rattle.layout.specs.Diamond.{storagesFrom, storageCount, diamondCount, pageOwn, pageVolumes, diamondPageCount};
 ghost use Rattle.entries.specs.Layout.{cycle as cycleOf};
@@ -20,6 +21,7 @@ use layout::DIAMOND_CELLS;
 use layout::DIAMOND_PAGE;
 use layout::RECORD;
 use layout::STORAGES;
+use layout::Worksheet;
 
 // Seconds of an hour, in which the volume is counted.
 const HOUR: u32 = 3_600;
@@ -102,11 +104,11 @@ fn put_ratios(numbers: &[u32], all: &mut [u32])
 
 // Puts a junction's sheet.
 fn put_sheet(entries: &[u32], all: &mut [u32], at: usize)
-    requires { ⌜ (judged (now entries) ≡ Accepted) × (at + sheetCount ≤ length (now all)) ⌝ }
+    requires { ⌜ (judged (now entries) ≡ Accepted) × (at + sheetCount Junction ≤ length (now all)) ⌝ }
     ensures { λ _. ⌜ now (all .exit) ≡ over (now (all .entry)) at (sheetOf (now (entries .entry))) ⌝ }
 {
     let mut cells = [0u32; CELLS];
-    sheet::write_fresh(entries, &mut cells);
+    sheet::write_fresh(Worksheet::Junction, entries, &mut cells);
     lists::put(all, at, &cells);
 }
 

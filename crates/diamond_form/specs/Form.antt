@@ -8,6 +8,7 @@ use lib.Dec.{eqb, ltb}
 use Rattle.text.specs.Text.{joined}
 use Rattle.layout.specs.Entries.{EB, WB, NB, SB, left, through, right, groupCount, movementPlace, approachPlace, cycleEntry}
 use Rattle.layout.specs.Entries.{lanesNo, volumeNo, idealNo, lostNo, greenNo, factorNo, sharedNo, walkersNo, buttonNo, crossingNo, freeNo}
+use Rattle.layout.specs.declared.Worksheet.the-variants.{Junction}
 use Rattle.layout.specs.Sheet.{sheetCount, linesOf}
 use Rattle.layout.specs.Diamond.{sideCount, sideTimes, storageCount, isolatedCell, alternateCell, combinedFrom, overlapCell, planFrom, bestCell}
 use Rattle.layout.specs.Diamond.{diamondIcu, diamondLetter, pageOwn, pageCells, pageVolumes, pageRooms, pageFits}
@@ -172,15 +173,15 @@ ofStorage = 115
 
 -- line k of the column's approach
 abbrev pub lineIn : ℕ → ℕ → ℕ → ℕ
-lineIn k side column = linesOf (approachIn side column) + (k - 1)
+lineIn k side column = linesOf Junction (approachIn side column) + (k - 1)
 
 -- the place in the page's list of what a mark says
 unfoldable pub placeOf : ℕ → ℕ → ℕ → ℕ → ℕ
 placeOf mark first side column =
-    cond (eqb mark ofMovement) (sheetCount * side + movementPlace (movementIn side column) first)
-    (cond (eqb mark ofApproach) (sheetCount * side + approachPlace (approachIn side column) first)
-    (cond (eqb mark ofGroup) (sheetCount * side + (lineIn first side column + groupIn side column))
-    (cond (eqb mark ofLine) (sheetCount * side + lineIn first side column)
+    cond (eqb mark ofMovement) (sheetCount Junction * side + movementPlace (movementIn side column) first)
+    (cond (eqb mark ofApproach) (sheetCount Junction * side + approachPlace (approachIn side column) first)
+    (cond (eqb mark ofGroup) (sheetCount Junction * side + (lineIn first side column + groupIn side column))
+    (cond (eqb mark ofLine) (sheetCount Junction * side + lineIn first side column)
     (cond (eqb mark ofTime) (first + sideTimes * side + column)
     (cond (eqb mark ofStorage) (first + side + (column - firstLeft)) (first + column))))))
 

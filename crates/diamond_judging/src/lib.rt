@@ -11,6 +11,7 @@ use answers::Answer;
 use answers::Refusal;
 use entries::Fault;
 use kinds::Kind;
+use layout::Worksheet;
 
 fn check_size(numbers: &[u32]) -> Answer
     ensures { λ r. ⌜ r ≡ recordSize (now (numbers .entry)) ⌝ }
@@ -37,11 +38,11 @@ fn check_both(numbers: &[u32], fault: Fault) -> Answer
     requires { ⌜ length (now numbers) ≡ recordCount ⌝ }
     ensures { λ r. ⌜ r ≡ bothAnswer (now (numbers .entry)) fault ⌝ }
 {
-    let west = entries::check_for(diamond_rules::west_of(numbers), fault);
+    let west = entries::check_for(Worksheet::Junction, diamond_rules::west_of(numbers), fault);
     let Answer::Accepted = west else {
         return west;
     };
-    let east = entries::check_for(diamond_rules::east_of(numbers), fault);
+    let east = entries::check_for(Worksheet::Junction, diamond_rules::east_of(numbers), fault);
     let before = fault.count();
     count_on(before, east)
 }

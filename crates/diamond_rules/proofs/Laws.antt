@@ -15,6 +15,7 @@ use Rattle.answers.specs.declared.Answer.{Answer}
 use Rattle.answers.specs.declared.Answer.the-variants.{Accepted, Refused}
 use Rattle.answers.specs.Answers.{_then_, refuse-if, inTurn, lowest, placeOf}
 use Rattle.answers.proofs.Laws.{go-on, both-accepted, not-refused, accepts, sized, each-accepted}
+use Rattle.layout.specs.declared.Worksheet.the-variants.{Junction}
 use Rattle.layout.specs.Entries.{entryCount}
 use Rattle.layout.specs.Diamond.{eastFrom, eastCycle, storagesFrom, storageCount, travelPlace, recordCount, diamondCount}
 use Rattle.kinds.specs.declared.Kind.the-variants.{Storage, TravelTime}
@@ -22,8 +23,8 @@ use Rattle.kinds.specs.Kinds.{inRange}
 use Rattle.entries.specs.declared.Fault.{Fault}
 use Rattle.entries.specs.declared.Fault.the-variants.{Range, Shared, NoLane}
 use Rattle.entries.specs.Layout.{cycle}
-use Rattle.entries.specs.Judging.{sizeAnswer, refusalOf, countOf, faulty, eachAnswer, judged}
-use Rattle.entries.proofs.Laws.{count-most}
+use Rattle.entries.specs.Judging.{sizeAnswer, refusalOf, countOf, faulty, eachAnswer, judgedFor, judged}
+use Rattle.entries.proofs.Laws.{count-most, checked}
 use Rattle.diamond_rules.specs.Record.{west, east, storage, travel, countedOn, bothAnswer, cyclesAnswer, storesAnswer, travelAnswer}
 use Rattle.diamond_rules.specs.Record.{junctionsAnswer, ownAnswer, recordSize, judgedRecord, cellsSize, diamondAnswer}
 
@@ -46,17 +47,17 @@ lowest-place bad why i (suc n) = go (bad i) (lowest-place bad why (suc i) n)
     go true later = omega arith
     go false later = omega arith
 
-pub each-place : (e : List ℕ) (fault : Fault) → placeOf (eachAnswer e fault) ≤ entryCount
-each-place e fault = omega (arith, lowest-place (faulty e fault) (refusalOf fault) 0 (countOf fault), count-most fault)
+pub each-place : (e : List ℕ) (fault : Fault) → placeOf (eachAnswer Junction e fault) ≤ entryCount
+each-place e fault = omega (arith, lowest-place (faulty Junction e fault) (refusalOf fault) 0 (countOf fault), count-most fault)
 
 -- a junction's answer, counted on from as many places as the fault is looked for in
-pub counted-so : (e : List ℕ) (fault : Fault) {before : ℕ} {answer r : Answer} → before ≡ countOf fault → answer ≡ eachAnswer e fault
-    → r ≡ countedOn before answer → r ≡ countedOn (countOf fault) (eachAnswer e fault)
+pub counted-so : (e : List ℕ) (fault : Fault) {before : ℕ} {answer r : Answer} → before ≡ countOf fault → answer ≡ eachAnswer Junction e fault
+    → r ≡ countedOn before answer → r ≡ countedOn (countOf fault) (eachAnswer Junction e fault)
 counted-so e fault many told counted = counted ∙ rw (many, told)
 
 -- entries in which no fault is found are acceptable
-pub faultless : (e : List ℕ) → length e ≡ entryCount → ((fault : Fault) → eachAnswer e fault ≡ Accepted) → judged e ≡ Accepted
-unfolding judged sizeAnswer
+pub faultless : (e : List ℕ) → length e ≡ entryCount → ((fault : Fault) → eachAnswer Junction e fault ≡ Accepted) → judged e ≡ Accepted
+unfolding judgedFor sizeAnswer
 faultless e size free =
     let whole : eqb (length e) entryCount ≡ true = eq-eqb (length e) entryCount size in
     rw (whole, free Range, free Shared, free NoLane)
@@ -65,12 +66,13 @@ counted-accepted : (n : ℕ) (a : Answer) → countedOn n a ≡ Accepted → a �
 counted-accepted n Accepted h = refl
 counted-accepted n (Refused why place) h = absurd (let z : _≡_ {A = ℕ} 0 1 = cc in omega arith)
 
-both-free : (r : List ℕ) (fault : Fault) → bothAnswer r fault ≡ Accepted → (eachAnswer (west r) fault ≡ Accepted) × (eachAnswer (east r) fault ≡ Accepted)
+both-free : (r : List ℕ) (fault : Fault) → bothAnswer r fault ≡ Accepted
+    → (eachAnswer Junction (west r) fault ≡ Accepted) × (eachAnswer Junction (east r) fault ≡ Accepted)
 unfolding bothAnswer
 both-free r fault h =
-    let two : (eachAnswer (west r) fault ≡ Accepted) × (countedOn (countOf fault) (eachAnswer (east r) fault) ≡ Accepted) =
-    both-accepted (eachAnswer (west r) fault) _ h in
-    (two .0, counted-accepted (countOf fault) (eachAnswer (east r) fault) (two .1))
+    let two : (eachAnswer Junction (west r) fault ≡ Accepted) × (countedOn (countOf fault) (eachAnswer Junction (east r) fault) ≡ Accepted) =
+    both-accepted (eachAnswer Junction (west r) fault) _ h in
+    (two .0, counted-accepted (countOf fault) (eachAnswer Junction (east r) fault) (two .1))
 
 module _ (r : List ℕ) (ok : judgedRecord r ≡ Accepted) where
   parts : (recordSize r ≡ Accepted) × ((junctionsAnswer r then ownAnswer r) ≡ Accepted)
@@ -94,7 +96,7 @@ module _ (r : List ℕ) (ok : judgedRecord r ≡ Accepted) where
   lanes : (bothAnswer r Shared ≡ Accepted) × (bothAnswer r NoLane ≡ Accepted)
   lanes = both-accepted (bothAnswer r Shared) (bothAnswer r NoLane) (cycles .1)
 
-  each : (fault : Fault) → (eachAnswer (west r) fault ≡ Accepted) × (eachAnswer (east r) fault ≡ Accepted)
+  each : (fault : Fault) → (eachAnswer Junction (west r) fault ≡ Accepted) × (eachAnswer Junction (east r) fault ≡ Accepted)
   each Range = both-free r Range (ranges .0)
   each Shared = both-free r Shared (lanes .0)
   each NoLane = both-free r NoLane (lanes .1)
@@ -127,28 +129,14 @@ module _ (r : List ℕ) (ok : judgedRecord r ≡ Accepted) where
   unfolding travelAnswer
   travel-accepted = not-false _ (not-refused (not (inRange TravelTime (travel r))) Travel travelPlace (own .1))
 
--- an acceptable junction has no fault
-accepted-fault : (e : List ℕ) → judged e ≡ Accepted → (fault : Fault) → eachAnswer e fault ≡ Accepted
-unfolding judged
-accepted-fault e ok fault =
-    let range = both-accepted (sizeAnswer e) _ ok in
-    let shared = both-accepted (eachAnswer e Range) _ (range .1) in
-    let lanes = both-accepted (eachAnswer e Shared) (eachAnswer e NoLane) (shared .1) in
-    go fault (shared .0) (lanes .0) (lanes .1)
-  where
-    go : (f : Fault) → eachAnswer e Range ≡ Accepted → eachAnswer e Shared ≡ Accepted → eachAnswer e NoLane ≡ Accepted → eachAnswer e f ≡ Accepted
-    go Range x y z = x
-    go Shared x y z = y
-    go NoLane x y z = z
-
--- so of two acceptable junctions a record is judged by their cycles and its own numbers alone
+-- of two acceptable junctions, which have no fault, a record is judged by their cycles and its own numbers alone
 pub judged-together : (r : List ℕ) → length r ≡ recordCount → judged (west r) ≡ Accepted → judged (east r) ≡ Accepted
     → judgedRecord r ≡ (cyclesAnswer r then ownAnswer r)
 unfolding judgedRecord recordSize junctionsAnswer bothAnswer
 judged-together r size west-ok east-ok =
     let whole : eqb (length r) recordCount ≡ true = eq-eqb (length r) recordCount size in
-    let w = accepted-fault (west r) west-ok in
-    let e = accepted-fault (east r) east-ok in
+    let w = checked Junction (west r) west-ok .fault in
+    let e = checked Junction (east r) east-ok .fault in
     rw (whole, w Range, e Range, w Shared, e Shared, w NoLane, e NoLane) (last (cyclesAnswer r))
   where
     last : (a : Answer) → (((Accepted then a) then Accepted) then ownAnswer r) ≡ (a then ownAnswer r)

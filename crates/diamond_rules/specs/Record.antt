@@ -8,6 +8,7 @@ use Rattle.answers.specs.declared.Answer.{Answer}
 use Rattle.answers.specs.declared.Answer.the-variants.{Accepted, Refused}
 use Rattle.answers.specs.declared.Refusal.the-variants.{Size, Range as OutOfRange, Store, Travel}
 use Rattle.answers.specs.Answers.{_then_, refuse-if, inTurn}
+use Rattle.layout.specs.declared.Worksheet.the-variants.{Junction}
 use Rattle.layout.specs.Entries.{entryCount}
 use Rattle.layout.specs.Diamond.{eastFrom, eastCycle, storagesFrom, storageCount, travelPlace, recordCount, diamondCount}
 use Rattle.kinds.specs.declared.Kind.the-variants.{Storage, TravelTime}
@@ -39,7 +40,7 @@ countedOn before (Refused why place) = Refused why (before + place)
 
 -- "3 to 5 over both junctions": what each is judged by, the west's places first
 unfoldable pub bothAnswer : List ℕ → Fault → Answer
-bothAnswer r fault = eachAnswer (west r) fault then countedOn (countOf fault) (eachAnswer (east r) fault)
+bothAnswer r fault = eachAnswer Junction (west r) fault then countedOn (countOf fault) (eachAnswer Junction (east r) fault)
 
 -- "same cycle, else 3" at its place, 185
 unfoldable pub cyclesAnswer : List ℕ → Answer

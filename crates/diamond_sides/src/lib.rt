@@ -12,6 +12,7 @@ ghost use Rattle.diamond_rules.specs.Lines.{sideAt};
 ghost use Rattle.diamond_sides.specs.Working.{servedOf};
 use diamond_rules::Side;
 use kinds::FreeRight;
+use layout::Worksheet;
 use units::Ms;
 
 // The interchange times of an approach.
@@ -31,13 +32,12 @@ fn unless_free(free: FreeRight, right: Ms) -> Ms
     right
 }
 
-// Lines 1–18 look at the approach alone, whatever is opposite; they are asked of the call that fills a sheet, since a second
-// caller of theirs alone would cost every fill a tenth.
+// Lines 1–18 look at the approach alone, whatever is opposite; they are asked for as of a single point, whose sheet has no more lines.
 fn served_at(entries: &[u32], approach: usize) -> Served
     requires { ⌜ (judged (now entries) ≡ Accepted) × (approach < approachCount) ⌝ }
     ensures { λ r. ⌜ r ≡ servedOf (readApproach (now (entries .entry)) approach) (cycle (now (entries .entry))) ⌝ }
 {
-    let lines = sheet_street::lines_at(entries, approach, approach);
+    let lines = sheet_street::lines_at(Worksheet::Point, entries, approach, approach);
     let times = lines.first.times;
     let free = FreeRight::new(entries::approach_value(entries, approach, layout::FREE_NO));
     Served {

@@ -11,16 +11,18 @@ use borrow.Author.Tests.{eqb-true, eqb-false, leb-true, ltb-false, lt-ltb, le-lt
 use Rattle.answers.specs.Answers.{_then_, refuse-if, inTurn, lowest}
 use Rattle.answers.specs.declared.Refusal.the-variants.{Size}
 use Rattle.answers.specs.declared.Answer.the-variants.{Accepted}
-use Rattle.answers.proofs.Laws.{both-accepted, not-refused, each-accepted}
+use Rattle.answers.proofs.Laws.{both-accepted, not-refused, each-accepted, all-accepted as all-checked}
 use Rattle.kinds.specs.declared.Kind.{Kind}
 use Rattle.kinds.specs.Kinds.{Within, limitsOf, inRange, kindAt, movementKind, approachKind, groupOf}
 use Rattle.lists.proofs.Tests.{both-true, not-both, neither}
+use Rattle.layout.specs.declared.Worksheet.{Worksheet}
+use Rattle.layout.specs.declared.Worksheet.the-variants.{Junction, Point}
 use Rattle.layout.specs.Entries.{approachCount, groupCount, movementCount, movementEntries, approachesFrom, approachEntries, cycleEntry, entryCount}
 use Rattle.layout.specs.Entries.{movementPlace, approachPlace, left, through}
 use Rattle.entries.specs.declared.Fault.{Fault}
 use Rattle.entries.specs.declared.Fault.the-variants.{Range, Shared, NoLane}
 use Rattle.entries.specs.Layout.{lanes, volume, shared, movementEntry, approachEntry}
-use Rattle.entries.specs.Judging.{sizeAnswer, eachAnswer, refusalOf, countOf, faulty, outside, badlyShared, unserved, otherLanes, judged}
+use Rattle.entries.specs.Judging.{sizeAnswer, eachAnswer, refusalOf, countOf, faulty, outside, badlyShared, unserved, otherLanes, judgedFor, judged}
 use Rattle.entries.specs.Working.{allInRange, Alike}
 
 -- no fault is looked for in more than the entries
@@ -85,42 +87,71 @@ module _ (e : List ℕ) where
       sym (rw (whole, in-parts i (k - i) (b + after), here, in-parts k b after, sym told ∙ not-true _ bad, and-false (allInRange e i (k - i))))
 
   -- entries that are all in range leave nothing to refuse
-  pub all-accepted : (i n : ℕ) → allInRange e i n ≡ true → lowest (faulty e Range) (refusalOf Range) i n ≡ Accepted
+  pub all-accepted : (k : Worksheet) (i n : ℕ) → allInRange e i n ≡ true → lowest (faulty k e Range) (refusalOf Range) i n ≡ Accepted
   unfolding allInRange outside inTurn
-  all-accepted i zero h = refl
-  all-accepted i (suc n) h =
+  all-accepted k i zero h = refl
+  all-accepted k i (suc n) h =
       let two : (inRange (kindAt i) (getD e i 0) ≡ true) × (allInRange e (suc i) n ≡ true) = both-true _ _ h in
-      rw (two .0) (all-accepted (suc i) n (two .1))
+      rw (two .0) (all-accepted k (suc i) n (two .1))
 
 -- a shared lane leaves the left none of its own, and the through at least one
 pub record SharesWell (e : List ℕ) (a : ℕ) : Type 0 where
   pub no-left : lanes e (left a) ≡ 0
   pub a-through : 0 < lanes e (through a)
 
+-- each check of what was accepted for a sheet of kind k
+pub record Checked (k : Worksheet) (e : List ℕ) : Type 0 where
+  pub size : sizeAnswer e ≡ Accepted
+  pub fault : (fault : Fault) → eachAnswer k e fault ≡ Accepted
+
+pub checked : (k : Worksheet) (e : List ℕ) → judgedFor k e ≡ Accepted → Checked k e
+unfolding judgedFor
+checked k e ok =
+    let sized = both-accepted (sizeAnswer e) (eachAnswer k e Range then eachAnswer k e Shared then eachAnswer k e NoLane) ok in
+    let ranged = both-accepted (eachAnswer k e Range) (eachAnswer k e Shared then eachAnswer k e NoLane) (sized .1) in
+    let laned = both-accepted (eachAnswer k e Shared) (eachAnswer k e NoLane) (ranged .1) in
+    record { size = sized .0; fault = each (ranged .0) (laned .0) (laned .1) }
+  where
+    each : eachAnswer k e Range ≡ Accepted → eachAnswer k e Shared ≡ Accepted → eachAnswer k e NoLane ≡ Accepted
+        → (fault : Fault) → eachAnswer k e fault ≡ Accepted
+    each r s n Range = r
+    each r s n Shared = s
+    each r s n NoLane = n
+
+-- and that no place has any of the faults
+pub fault-free : (k : Worksheet) (e : List ℕ) → judgedFor k e ≡ Accepted → (fault : Fault) (i : ℕ) → i < countOf fault → faulty k e fault i ≡ false
+fault-free k e ok fault i p =
+    not-refused (faulty k e fault i) (refusalOf fault) i
+    (rw zero-add at (each-accepted (λ j. refuse-if (faulty k e fault j) (refusalOf fault) j) 0 (countOf fault) (checked k e ok .fault fault) i p))
+
+-- a lane that no approach shares is not badly shared: what is acceptable for a sheet of any kind is acceptable for a junction's
+pub as-junction : (k : Worksheet) (e : List ℕ) → judgedFor k e ≡ Accepted → judged e ≡ Accepted
+unfolding badlyShared judgedFor
+as-junction Junction e ok = ok
+as-junction Point e ok = go (checked Point e ok)
+  where
+    fine : (a : ℕ) → a < approachCount → refuse-if (faulty Junction e Shared a) (refusalOf Shared) a ≡ Accepted
+    fine a h = rw (fault-free Point e ok Shared a h)
+
+    go : Checked Point e → judged e ≡ Accepted
+    go c =
+        rw (
+          c .size,
+          c .fault Range,
+          all-checked (λ a. refuse-if (faulty Junction e Shared a) (refusalOf Shared) a) 0 approachCount
+              (λ a from to. fine a (omega arith)),
+        )
+        (c .fault NoLane)
+
 module _ (e : List ℕ) (ok : judged e ≡ Accepted) where
-  parts : (sizeAnswer e ≡ Accepted) × ((eachAnswer e Range then eachAnswer e Shared then eachAnswer e NoLane) ≡ Accepted)
-  unfolding judged
-  parts = both-accepted (sizeAnswer e) (eachAnswer e Range then eachAnswer e Shared then eachAnswer e NoLane) ok
-
-  later : (eachAnswer e Range ≡ Accepted) × ((eachAnswer e Shared then eachAnswer e NoLane) ≡ Accepted)
-  later = both-accepted (eachAnswer e Range) (eachAnswer e Shared then eachAnswer e NoLane) (parts .1)
-
-  last : (eachAnswer e Shared ≡ Accepted) × (eachAnswer e NoLane ≡ Accepted)
-  last = both-accepted (eachAnswer e Shared) (eachAnswer e NoLane) (later .1)
-
-  fault-free : (fault : Fault) → eachAnswer e fault ≡ Accepted → (i : ℕ) → i < countOf fault → faulty e fault i ≡ false
-  fault-free fault h i p =
-      not-refused (faulty e fault i) (refusalOf fault) i
-      (rw zero-add at (each-accepted (λ j. refuse-if (faulty e fault j) (refusalOf fault) j) 0 (countOf fault) h i p))
-
   -- there are as many as there should be
   pub accepted-count : length e ≡ entryCount
-  accepted-count = size-accepted e (parts .0)
+  accepted-count = size-accepted e (checked Junction e ok .size)
 
   -- each entry is in its kind's range
   pub accepted-range : (i : ℕ) → i < entryCount → inRange (kindAt i) (getD e i 0) ≡ true
   unfolding outside
-  accepted-range i h = not-false _ (fault-free Range (later .0) i h)
+  accepted-range i h = not-false _ (fault-free Junction e ok Range i h)
 
   pub accepted-movement : (m j : ℕ) → m < movementCount → j < movementEntries → inRange (movementKind j) (movementEntry e m j) ≡ true
   unfolding movementEntry
@@ -135,7 +166,7 @@ module _ (e : List ℕ) (ok : judged e ≡ Accepted) where
   unfolding badlyShared
   accepted-shared a h s =
       let two : (ltb 0 (lanes e (left a)) ≡ false) × (eqb (lanes e (through a)) 0 ≡ false) =
-      neither _ _ (not-both (eqb (shared e a) 1) _ (fault-free Shared (last .0) a h) (eq-eqb _ _ s)) in
+      neither _ _ (not-both (eqb (shared e a) 1) _ (fault-free Junction e ok Shared a h) (eq-eqb _ _ s)) in
       record {
         no-left = omega (arith, ltb-false 0 (lanes e (left a)) (two .0));
         a-through = omega (arith, eqb-false (lanes e (through a)) 0 (two .1));
@@ -144,7 +175,7 @@ module _ (e : List ℕ) (ok : judged e ≡ Accepted) where
   -- volume implies a lane that serves it
   pub accepted-served : (m : ℕ) → m < movementCount → 0 < volume e m → 0 < lanes e m + otherLanes e (m / groupCount) (groupOf m)
   unfolding unserved
-  accepted-served m h v = go (eqb (lanes e m) 0) refl (not-both (ltb 0 (volume e m)) _ (fault-free NoLane (last .1) m h) (lt-ltb _ _ v))
+  accepted-served m h v = go (eqb (lanes e m) 0) refl (not-both (ltb 0 (volume e m)) _ (fault-free Junction e ok NoLane m h) (lt-ltb _ _ v))
     where
       go : (t : Bool) → eqb (lanes e m) 0 ≡ t → (t && eqb (otherLanes e (m / groupCount) (groupOf m)) 0) ≡ false
           → 0 < lanes e m + otherLanes e (m / groupCount) (groupOf m)

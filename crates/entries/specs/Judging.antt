@@ -11,6 +11,8 @@ use Rattle.answers.specs.Answers.{_then_, refuse-if, lowest}
 use Rattle.kinds.specs.declared.Group.{Group}
 use Rattle.kinds.specs.declared.Group.the-variants.{Left, Through, Right}
 use Rattle.kinds.specs.Kinds.{inRange, kindAt, groupOf}
+use Rattle.layout.specs.declared.Worksheet.{Worksheet}
+use Rattle.layout.specs.declared.Worksheet.the-variants.{Junction, Point}
 use Rattle.layout.specs.Entries.{approachCount, groupCount, movementCount, entryCount, left, through}
 use Rattle.entries.specs.declared.Fault.{Fault}
 use Rattle.entries.specs.declared.Fault.the-variants.{Range, Shared, NoLane}
@@ -24,9 +26,11 @@ sizeAnswer e = refuse-if (not (eqb (length e) entryCount)) Size 0
 unfoldable pub outside : List ℕ → ℕ → Bool
 outside e i = not (inRange (kindAt i) (getD e i 0))
 
--- 4 SHARED: "shared lane with left lanes above 0 or through lanes 0"; place "lowest approach"
-unfoldable pub badlyShared : List ℕ → ℕ → Bool
-badlyShared e a = eqb (shared e a) 1 && (ltb 0 (lanes e (left a)) || eqb (lanes e (through a)) 0)
+-- 4 SHARED: "shared lane with left lanes above 0 or through lanes 0"; place "lowest approach". On the sheet of a single point,
+-- Request Seven, "for any shared lane"
+unfoldable pub badlyShared : Worksheet → List ℕ → ℕ → Bool
+badlyShared Junction e a = eqb (shared e a) 1 && (ltb 0 (lanes e (left a)) || eqb (lanes e (through a)) 0)
+badlyShared Point e a = eqb (shared e a) 1
 
 -- lanes that serve a movement beside its own: a shared lane the left, the through lanes the right
 unfoldable pub otherLanes : List ℕ → ℕ → Group → ℕ
@@ -51,15 +55,19 @@ countOf Range = entryCount
 countOf Shared = approachCount
 countOf NoLane = movementCount
 
-abbrev pub faulty : List ℕ → Fault → ℕ → Bool
-faulty e Range i = outside e i
-faulty e Shared a = badlyShared e a
-faulty e NoLane m = unserved e m
+abbrev pub faulty : Worksheet → List ℕ → Fault → ℕ → Bool
+faulty k e Range i = outside e i
+faulty k e Shared a = badlyShared k e a
+faulty k e NoLane m = unserved e m
 
 -- the lowest of them, or acceptance
-abbrev pub eachAnswer : List ℕ → Fault → Answer
-eachAnswer e fault = lowest (faulty e fault) (refusalOf fault) 0 (countOf fault)
+abbrev pub eachAnswer : Worksheet → List ℕ → Fault → Answer
+eachAnswer k e fault = lowest (faulty k e fault) (refusalOf fault) 0 (countOf fault)
 
--- "The first that applies, in this order, is answered."
-unfoldable pub judged : List ℕ → Answer
-judged e = sizeAnswer e then eachAnswer e Range then eachAnswer e Shared then eachAnswer e NoLane
+-- "The first that applies, in this order, is answered": of entries for a sheet of kind k
+unfoldable pub judgedFor : Worksheet → List ℕ → Answer
+judgedFor k e = sizeAnswer e then eachAnswer k e Range then eachAnswer k e Shared then eachAnswer k e NoLane
+
+-- a junction's
+abbrev pub judged : List ℕ → Answer
+judged e = judgedFor Junction e

@@ -6,19 +6,23 @@ ghost use lib.ListN.{length};
 ghost use Rattle.answers.specs.declared.Answer.the-variants.{Accepted};
 ghost use Rattle.kinds.specs.Kinds.{inRange, movementKind, approachKind};
 ghost use Rattle.layout.specs.Entries.{approachCount, movementCount, movementEntries, approachEntries, entryCount};
-ghost use Rattle.entries.specs.Layout.{movementEntry, approachEntry, cycle};
-ghost use Rattle.entries.specs.Judging.{sizeAnswer, outside, badlyShared, otherLanes, unserved, refusalOf, countOf, faulty, eachAnswer, judged};
+ghost use Rattle.layout.specs.declared.Worksheet.the-variants.{Junction as JunctionSheet};
+ghost use Rattle.entries.specs.Layout.{movementEntry, approachEntry, cycle, shared};
+ghost use lib.Dec.{eqb};
+ghost use Rattle.entries.specs.Judging.{sizeAnswer, outside, badlyShared, otherLanes, unserved, refusalOf, countOf, faulty, eachAnswer};
+ghost use Rattle.entries.specs.Judging.{judgedFor, judged};
 ghost use Rattle.entries.specs.Working.{allInRange, Alike};
 use answers::Answer;
 use answers::Refusal;
 use kinds::Group;
 use kinds::Kind;
+use layout::Worksheet;
 
 // What judging can find wrong, in the order in which it is looked for.
 pub enum Fault {
     // an entry outside its range
     Range,
-    // a shared lane beside left lanes, or without a through lane
+    // a shared lane beside left lanes, or without a through lane; on a single point's sheet, any
     Shared,
     // volume that no lane serves
     NoLane,
@@ -130,17 +134,36 @@ fn all_in_range(entries: &[u32]) -> bool
     Kind::Cycle.holds(cycle_entry(entries))
 }
 
-fn is_badly_shared(entries: &[u32], approach: usize) -> bool
+// Whether an approach shares a lane.
+fn is_shared(entries: &[u32], approach: usize) -> bool
     requires { ⌜ (length (now entries) ≡ entryCount) × (approach < approachCount) ⌝ }
-    ensures { λ r. ⌜ r ≡ badlyShared (now (entries .entry)) approach ⌝ }
+    ensures { λ r. ⌜ r ≡ eqb (shared (now (entries .entry)) approach) 1 ⌝ }
 {
-    if approach_entry(entries, approach, layout::SHARED_NO) != 1 {
+    approach_entry(entries, approach, layout::SHARED_NO) == 1
+}
+
+// Whether a shared lane stands beside left lanes, or without a through lane.
+fn is_badly_placed(entries: &[u32], approach: usize) -> bool
+    requires { ⌜ (length (now entries) ≡ entryCount) × (approach < approachCount) ⌝ }
+    ensures { λ r. ⌜ r ≡ badlyShared JunctionSheet (now (entries .entry)) approach ⌝ }
+{
+    if !is_shared(entries, approach) {
         return false;
     }
     if 0 < movement_entry(entries, layout::GROUPS * approach, layout::LANES_NO) {
         return true;
     }
     movement_entry(entries, layout::GROUPS * approach + 1, layout::LANES_NO) == 0
+}
+
+fn is_badly_shared(kind: Worksheet, entries: &[u32], approach: usize) -> bool
+    requires { ⌜ (length (now entries) ≡ entryCount) × (approach < approachCount) ⌝ }
+    ensures { λ r. ⌜ r ≡ badlyShared kind (now (entries .entry)) approach ⌝ }
+{
+    match kind {
+        Worksheet::Junction => is_badly_placed(entries, approach),
+        Worksheet::Point => is_shared(entries, approach),
+    }
 }
 
 // Lanes that serve a group beside its own.
@@ -191,26 +214,26 @@ impl Fault {
     }
 }
 
-fn is_faulty(entries: &[u32], fault: Fault, index: usize) -> bool
+fn is_faulty(kind: Worksheet, entries: &[u32], fault: Fault, index: usize) -> bool
     requires { ⌜ (length (now entries) ≡ entryCount) × (index < countOf fault) ⌝ }
-    ensures { λ r. ⌜ r ≡ faulty (now (entries .entry)) fault index ⌝ }
+    ensures { λ r. ⌜ r ≡ faulty kind (now (entries .entry)) fault index ⌝ }
 {
     match fault {
         Fault::Range => is_outside(entries, index),
-        Fault::Shared => is_badly_shared(entries, index),
+        Fault::Shared => is_badly_shared(kind, entries, index),
         Fault::NoLane => is_unserved(entries, index),
     }
 }
 
 // The lowest entry, approach or movement that has this fault.
-fn check_each(entries: &[u32], fault: Fault) -> Answer
+fn check_each(kind: Worksheet, entries: &[u32], fault: Fault) -> Answer
     requires { ⌜ length (now entries) ≡ entryCount ⌝ }
-    ensures { λ r. ⌜ r ≡ eachAnswer (now (entries .entry)) fault ⌝ }
+    ensures { λ r. ⌜ r ≡ eachAnswer kind (now (entries .entry)) fault ⌝ }
 {
     let count = fault.count();
     let mut index = 0;
     while index < count {
-        if is_faulty(entries, fault, index) {
+        if is_faulty(kind, entries, fault, index) {
             return Answer::Refused(fault.refusal(), index as u32);
         }
         index += 1;
@@ -219,43 +242,43 @@ fn check_each(entries: &[u32], fault: Fault) -> Answer
 }
 
 // The lowest entry outside its range, looked for only where there is one.
-fn check_ranges(entries: &[u32]) -> Answer
+fn check_ranges(kind: Worksheet, entries: &[u32]) -> Answer
     requires { ⌜ length (now entries) ≡ entryCount ⌝ }
-    ensures { λ r. ⌜ r ≡ eachAnswer (now (entries .entry)) Fault.Range ⌝ }
+    ensures { λ r. ⌜ r ≡ eachAnswer kind (now (entries .entry)) Fault.Range ⌝ }
 {
     if all_in_range(entries) {
         return Answer::Accepted;
     }
-    check_each(entries, Fault::Range)
+    check_each(kind, entries, Fault::Range)
 }
 
 // The lowest place of one fault: what each of a diamond's junctions is asked, too.
-pub fn check_for(entries: &[u32], fault: Fault) -> Answer
+pub fn check_for(kind: Worksheet, entries: &[u32], fault: Fault) -> Answer
     requires { ⌜ length (now entries) ≡ entryCount ⌝ }
-    ensures { λ r. ⌜ r ≡ eachAnswer (now (entries .entry)) fault ⌝ }
+    ensures { λ r. ⌜ r ≡ eachAnswer kind (now (entries .entry)) fault ⌝ }
 {
     match fault {
-        Fault::Range => check_ranges(entries),
-        Fault::Shared => check_each(entries, Fault::Shared),
-        Fault::NoLane => check_each(entries, Fault::NoLane),
+        Fault::Range => check_ranges(kind, entries),
+        Fault::Shared => check_each(kind, entries, Fault::Shared),
+        Fault::NoLane => check_each(kind, entries, Fault::NoLane),
     }
 }
 
-// The first refusal that applies to the entries, or acceptance.
-pub fn judge(entries: &[u32]) -> Answer
-    ensures { λ r. ⌜ r ≡ judged (now (entries .entry)) ⌝ }
+// The first refusal that applies to the entries for a sheet of a kind, or acceptance.
+pub fn judge(kind: Worksheet, entries: &[u32]) -> Answer
+    ensures { λ r. ⌜ r ≡ judgedFor kind (now (entries .entry)) ⌝ }
 {
     let size = check_size(entries);
     let Answer::Accepted = size else {
         return size;
     };
-    let ranges = check_ranges(entries);
+    let ranges = check_ranges(kind, entries);
     let Answer::Accepted = ranges else {
         return ranges;
     };
-    let shared = check_each(entries, Fault::Shared);
+    let shared = check_each(kind, entries, Fault::Shared);
     let Answer::Accepted = shared else {
         return shared;
     };
-    check_each(entries, Fault::NoLane)
+    check_each(kind, entries, Fault::NoLane)
 }

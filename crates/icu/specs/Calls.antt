@@ -5,6 +5,8 @@ use Prim.Native.Nat.{ℕ}
 use lib.ListN.{length}
 use Rattle.answers.specs.Answers.{left-by}
 use Rattle.lists.specs.Lists.{over}
+use Rattle.layout.specs.declared.Worksheet.{Worksheet}
+use Rattle.point_start.specs.Start.{startAnswer, started}
 use Rattle.sheet.specs.Fill.{fillAnswer, filled}
 use Rattle.amend_sets.specs.Amend.{amendAnswer, amended}
 use Rattle.study.specs.Study.{judgement, countOf, siteEntriesAnswer, siteEntries, writeAnswer, fileOf}
@@ -19,13 +21,17 @@ use Rattle.icu.specs.Told.{told}
 abbrev pub Allowed : {A B : Type 0} → A → B → A → B → Type 0
 Allowed answer after one left = (one ≡ answer) × (left ≡ after)
 
--- from entries e, on a sheet that holds d
-abbrev pub fillAllows : List ℕ → List ℕ → IcuAnswer → List ℕ → Type 0
-fillAllows e d = Allowed (told (fillAnswer e d)) (filled e d)
+-- from entries e, on a sheet of kind k that holds d
+abbrev pub fillAllows : Worksheet → List ℕ → List ℕ → IcuAnswer → List ℕ → Type 0
+fillAllows k e d = Allowed (told (fillAnswer k e d)) (filled k e d)
 
--- on a sheet that holds d, entry i given the value v
-abbrev pub amendAllows : List ℕ → ℕ → ℕ → IcuAnswer → List ℕ → Type 0
-amendAllows d i v = Allowed (told (amendAnswer d i v)) (amended d i v)
+-- on a sheet of kind k that holds d, entry i given the value v
+abbrev pub amendAllows : Worksheet → List ℕ → ℕ → ℕ → IcuAnswer → List ℕ → Type 0
+amendAllows k d i v = Allowed (told (amendAnswer k d i v)) (amended k d i v)
+
+-- the starting entries of a single point, in a list that holds old
+abbrev pub startAllows : List ℕ → IcuAnswer → List ℕ → Type 0
+startAllows old = Allowed (told (startAnswer old)) (started old)
 
 abbrev pub checkAllows : List ℕ → IcuAnswer → Type 0
 checkAllows file answer = answer ≡ told (judgement file)

@@ -1,10 +1,12 @@
 // The library's calls, for C and Rust to link. None of them asks anything of its caller.
 ghost use mathlib.Core.Path.{_≡_};
+ghost use Rattle.layout.specs.declared.Worksheet.the-variants.{Junction, Point};
 ghost use Rattle.icu.specs.Told.{told};
-ghost use Rattle.icu.specs.Calls.{fillAllows, amendAllows, checkAllows, countAllows, siteAllows, writeAllows, listAllows};
+ghost use Rattle.icu.specs.Calls.{fillAllows, amendAllows, startAllows, checkAllows, countAllows, siteAllows, writeAllows, listAllows};
 ghost use Rattle.icu.specs.Calls.{diamondAllows, openAddAllows, openAmendAllows, openReadAllows};
 ghost use Rattle.open_rules.specs.Open.{study};
 use answers::Answer;
+use layout::Worksheet;
 
 // Number 0 is accepted, with place 0; else the refusal's number and place.
 #[repr(C)]
@@ -24,17 +26,41 @@ fn tell(answer: Answer) -> IcuAnswer
 // Fills a sheet of 221 numbers from 93 entries.
 #[no_mangle]
 pub extern "C" fn icu_fill(entries: &[u32], sheet: &mut [u32]) -> IcuAnswer
-    ensures { λ r. ⌜ fillAllows (now (entries .entry)) (now (sheet .entry)) r (now (sheet .exit)) ⌝ }
+    ensures { λ r. ⌜ fillAllows Junction (now (entries .entry)) (now (sheet .entry)) r (now (sheet .exit)) ⌝ }
 {
-    tell(sheet::fill(entries, sheet))
+    tell(sheet::fill(Worksheet::Junction, entries, sheet))
 }
 
 // Changes one entry of a sheet, and writes anew every cell that it reaches.
 #[no_mangle]
 pub extern "C" fn icu_amend(sheet: &mut [u32], entry: u32, value: u32) -> IcuAnswer
-    ensures { λ r. ⌜ amendAllows (now (sheet .entry)) entry value r (now (sheet .exit)) ⌝ }
+    ensures { λ r. ⌜ amendAllows Junction (now (sheet .entry)) entry value r (now (sheet .exit)) ⌝ }
 {
-    tell(amend::amend(sheet, entry, value))
+    tell(amend::amend(Worksheet::Junction, sheet, entry, value))
+}
+
+// Writes the 93 entries that a single point interchange begins with.
+#[no_mangle]
+pub extern "C" fn icu_point_start(entries: &mut [u32]) -> IcuAnswer
+    ensures { λ r. ⌜ startAllows (now (entries .entry)) r (now (entries .exit)) ⌝ }
+{
+    tell(point_start::start(entries))
+}
+
+// Fills a single point's sheet of 175 numbers from 93 entries.
+#[no_mangle]
+pub extern "C" fn icu_point_fill(entries: &[u32], sheet: &mut [u32]) -> IcuAnswer
+    ensures { λ r. ⌜ fillAllows Point (now (entries .entry)) (now (sheet .entry)) r (now (sheet .exit)) ⌝ }
+{
+    tell(sheet::fill(Worksheet::Point, entries, sheet))
+}
+
+// Changes one entry of a single point's sheet, and writes anew every cell that it reaches.
+#[no_mangle]
+pub extern "C" fn icu_point_amend(sheet: &mut [u32], entry: u32, value: u32) -> IcuAnswer
+    ensures { λ r. ⌜ amendAllows Point (now (sheet .entry)) entry value r (now (sheet .exit)) ⌝ }
+{
+    tell(amend::amend(Worksheet::Point, sheet, entry, value))
 }
 
 // Judges the layout of a study file.

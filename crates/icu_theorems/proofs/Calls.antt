@@ -6,8 +6,9 @@ use contract.Notation.{connectives}
 use denote.Ref.{now}
 use denote.Triple.Clauses.{AtExit}
 use borrow.Fn.World.{World, ArgsD, ResD, Pr}
+use Rattle.layout.specs.declared.Worksheet.the-variants.{Junction, Point}
 use Rattle.open_rules.specs.Open.{study}
-use Rattle.icu.specs.Calls.{fillAllows, amendAllows, checkAllows, countAllows, siteAllows, writeAllows, listAllows, diamondAllows}
+use Rattle.icu.specs.Calls.{fillAllows, amendAllows, startAllows, checkAllows, countAllows, siteAllows, writeAllows, listAllows, diamondAllows}
 use Rattle.icu.specs.Calls.{openAddAllows, openAmendAllows, openReadAllows}
 use Rattle.icu.proofs.icu_fill as fill
 use Rattle.icu.proofs.icu_fill.Statement as fill-stated
@@ -17,6 +18,18 @@ use Rattle.icu.proofs.icu_amend as amend
 use Rattle.icu.proofs.icu_amend.Statement as amend-stated
 use Rattle.icu.proofs.icu_amend.Reads as amend-reads
 use Rattle.icu.proofs.icu_amend.Met as amend-met
+use Rattle.icu.proofs.icu_point_start as point-start
+use Rattle.icu.proofs.icu_point_start.Statement as point-start-stated
+use Rattle.icu.proofs.icu_point_start.Reads as point-start-reads
+use Rattle.icu.proofs.icu_point_start.Met as point-start-met
+use Rattle.icu.proofs.icu_point_fill as point-fill
+use Rattle.icu.proofs.icu_point_fill.Statement as point-fill-stated
+use Rattle.icu.proofs.icu_point_fill.Reads as point-fill-reads
+use Rattle.icu.proofs.icu_point_fill.Met as point-fill-met
+use Rattle.icu.proofs.icu_point_amend as point-amend
+use Rattle.icu.proofs.icu_point_amend.Statement as point-amend-stated
+use Rattle.icu.proofs.icu_point_amend.Reads as point-amend-reads
+use Rattle.icu.proofs.icu_point_amend.Met as point-amend-met
 use Rattle.icu.proofs.icu_study_check as check
 use Rattle.icu.proofs.icu_study_check.Statement as check-stated
 use Rattle.icu.proofs.icu_study_check.Reads as check-reads
@@ -64,7 +77,7 @@ fill-keeps = fill-met.met
 -- a: what the call is given, r: what it answers, s: what it leaves
 pub fill-promises :
     (κs : Lfts 2) (a : ArgsD fill.signature κs) (r : ResD fill.signature κs) (s : AtExit fill.ended κs) (w : World)
-    → Exactly w (fill-reads.ensures κs a tt r s w) (fillAllows (now (a .0)) (now (a .1 .0)) r (now (s .1 .0)))
+    → Exactly w (fill-reads.ensures κs a tt r s w) (fillAllows Junction (now (a .0)) (now (a .1 .0)) r (now (s .1 .0)))
 fill-promises κs a r s w = refl
 
 pub amend-keeps : {M : Type 1} → amend-stated.statement M
@@ -72,8 +85,32 @@ amend-keeps = amend-met.met
 
 pub amend-promises :
     (κs : Lfts 1) (a : ArgsD amend.signature κs) (r : ResD amend.signature κs) (s : AtExit amend.ended κs) (w : World)
-    → Exactly w (amend-reads.ensures κs a tt r s w) (amendAllows (now (a .0)) (a .1 .0) (a .1 .1 .0) r (now (s .0)))
+    → Exactly w (amend-reads.ensures κs a tt r s w) (amendAllows Junction (now (a .0)) (a .1 .0) (a .1 .1 .0) r (now (s .0)))
 amend-promises κs a r s w = refl
+
+pub point-start-keeps : {M : Type 1} → point-start-stated.statement M
+point-start-keeps = point-start-met.met
+
+pub point-start-promises :
+    (κs : Lfts 1) (a : ArgsD point-start.signature κs) (r : ResD point-start.signature κs) (s : AtExit point-start.ended κs) (w : World)
+    → Exactly w (point-start-reads.ensures κs a tt r s w) (startAllows (now (a .0)) r (now (s .0)))
+point-start-promises κs a r s w = refl
+
+pub point-fill-keeps : {M : Type 1} → point-fill-stated.statement M
+point-fill-keeps = point-fill-met.met
+
+pub point-fill-promises :
+    (κs : Lfts 2) (a : ArgsD point-fill.signature κs) (r : ResD point-fill.signature κs) (s : AtExit point-fill.ended κs) (w : World)
+    → Exactly w (point-fill-reads.ensures κs a tt r s w) (fillAllows Point (now (a .0)) (now (a .1 .0)) r (now (s .1 .0)))
+point-fill-promises κs a r s w = refl
+
+pub point-amend-keeps : {M : Type 1} → point-amend-stated.statement M
+point-amend-keeps = point-amend-met.met
+
+pub point-amend-promises :
+    (κs : Lfts 1) (a : ArgsD point-amend.signature κs) (r : ResD point-amend.signature κs) (s : AtExit point-amend.ended κs) (w : World)
+    → Exactly w (point-amend-reads.ensures κs a tt r s w) (amendAllows Point (now (a .0)) (a .1 .0) (a .1 .1 .0) r (now (s .0)))
+point-amend-promises κs a r s w = refl
 
 pub check-keeps : {M : Type 1} → check-stated.statement M
 check-keeps = check-met.met

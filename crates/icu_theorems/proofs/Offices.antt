@@ -14,6 +14,7 @@ use Rattle.answers.proofs.Laws.{renewed}
 use Rattle.layout.specs.Sheet.{sheetCount}
 use Rattle.entries.specs.Judging.{judged}
 use Rattle.procedure.specs.Sheet.{sheet}
+use Rattle.layout.specs.declared.Worksheet.the-variants.{Junction}
 use Rattle.sheet_cells.specs.Cells.{sheetAnswer}
 use Rattle.amend_sets.specs.Amend.{entryAnswer, entriesBy, amendedBy}
 use Rattle.amend_sets.proofs.Runs.{run-is-fresh}
@@ -140,22 +141,22 @@ owner-amending S o s i v allowed whole entry other = allowed .0 ∙ ap told (not
 
 pub owner-reading :
     (S : Study) (o s : ℕ) (d : List ℕ) {said : IcuAnswer} {left : List ℕ} → openReadAllows S o s d said left
-    → studySize S ≡ Accepted → sheetAnswer d ≡ Accepted → owns (S .owners) o s ≡ false → said ≡ told (Refused Owner s)
+    → studySize S ≡ Accepted → sheetAnswer Junction d ≡ Accepted → owns (S .owners) o s ≡ false → said ≡ told (Refused Owner s)
 unfolding readAnswer
 owner-reading S o s d allowed whole sheet other =
     allowed .0 ∙ rw (whole, sheet, not-own-refused (S .owners) o s other)
 
 -- T3: demand 3 of each site, from any start ..
-answered : (S : Study) (o s : ℕ) (e d : List ℕ) → Site o s S e → length d ≡ sheetCount → readAnswer S o s d ≡ judged e
+answered : (S : Study) (o s : ℕ) (e d : List ℕ) → Site o s S e → length d ≡ sheetCount Junction → readAnswer S o s d ≡ judged e
 answered S o s e d at cells = read-judged S o s d (at .study) (at .own) cells ∙ ap judged (at .entries)
 
 pub site-from-any-start :
     (o s : ℕ) (S : Study) (run : List Call) (end : Study) (heard : List Heard) (d : List ℕ) {two : IcuAnswer} {cells : List ℕ}
-    → studySize S ≡ Accepted → owns (S .owners) o s ≡ true → OpenRun o run S end heard → openReadAllows end o s d two cells → length d ≡ sheetCount
-    → let e = entriesBy (changesOf o s run) (blockAt (S .blocks) s) in (two ≡ told (judged e)) × (cells ≡ left-by (judged e) (sheet e) d)
+    → studySize S ≡ Accepted → owns (S .owners) o s ≡ true → OpenRun o run S end heard → openReadAllows end o s d two cells → length d ≡ sheetCount Junction
+    → let e = entriesBy Junction (changesOf o s run) (blockAt (S .blocks) s) in (two ≡ told (judged e)) × (cells ≡ left-by (judged e) (sheet e) d)
 unfolding readSheet
 site-from-any-start o s S run end heard d size mine steps reads-it cells-long =
-    let e = entriesBy (changesOf o s run) (blockAt (S .blocks) s) in
+    let e = entriesBy Junction (changesOf o s run) (blockAt (S .blocks) s) in
     let start : Site o s S (blockAt (S .blocks) s) = record { study = whole S size; own = mine; entries = refl } in
     let later : Site o s end e = rw (ran o run S steps .ends) (site-kept o s run start) in
     let answer = answered end o s e d later cells-long in
@@ -166,18 +167,18 @@ pub site-read :
     (o : ℕ) (S : Study) (e : List ℕ) (before : ℕ) (run : List Call) (end : Study) (heard : List Heard) (d : List ℕ)
     {said two : IcuAnswer} {left : Study} {place : ℕ} {cells : List ℕ}
     → openAddAllows S o e before said left place → Yes said → OpenRun o run left end heard
-    → openReadAllows end o place d two cells → length d ≡ sheetCount
-    → Yes two × (cells ≡ sheet (entriesBy (changesOf o place run) e)) × (cells ≡ amendedBy (changesOf o place run) (sheet e))
+    → openReadAllows end o place d two cells → length d ≡ sheetCount Junction
+    → Yes two × (cells ≡ sheet (entriesBy Junction (changesOf o place run) e)) × (cells ≡ amendedBy Junction (changesOf o place run) (sheet e))
 unfolding addedPlace
 site-read o S e before run end heard d {left = left} {place = place} adds-it granted steps reads-it cells-long =
     let accepted = told-yes (addAnswer S o e) (adds-it .0 .0) granted in
     let here : place ≡ lowestFree (S .owners) = adds-it .1 ∙ sym (renewed (lowestFree (S .owners)) before accepted) in
     let fine = adds S o e accepted .fine in
     let start : Site o place left e = rw (adds-it .0 .1, here) (added-site o S e accepted) in
-    let later : Site o place end (entriesBy (changesOf o place run) e) = rw (ran o run left steps .ends) (site-kept o place run start) in
+    let later : Site o place end (entriesBy Junction (changesOf o place run) e) = rw (ran o run left steps .ends) (site-kept o place run start) in
     let given = read-site later (still-fine (changesOf o place run) e fine) d cells-long in
     let is = reads-it .1 ∙ given .1 in
-    (rw (reads-it .0, given .0), is, is ∙ sym (run-is-fresh (changesOf o place run) e fine))
+    (rw (reads-it .0, given .0), is, is ∙ sym (run-is-fresh Junction (changesOf o place run) e fine))
 
 -- T4: the lowest free place
 module _ (S : Study) (office : ℕ) (e : List ℕ) (before : ℕ) {said : IcuAnswer} {left : Study} {place : ℕ}

@@ -12,13 +12,16 @@ use Rattle.answers.specs.declared.Refusal.the-variants.{Size}
 use Rattle.answers.specs.declared.Answer.{Answer}
 use Rattle.answers.specs.declared.Answer.the-variants.{Accepted, Refused}
 use Rattle.answers.proofs.Laws.{both-accepted, renewed, not-refused, sized}
+use Rattle.layout.specs.declared.Worksheet.{Worksheet}
 use Rattle.layout.specs.Entries.{entryCount}
 use Rattle.layout.specs.Sheet.{sheetCount}
-use Rattle.entries.specs.Judging.{judged}
-use Rattle.procedure.specs.Sheet.{sheet}
+use Rattle.entries.specs.Judging.{judgedFor}
+use Rattle.procedure.specs.Sheet.{sheetFor}
 use Rattle.sheet_cells.specs.Cells.{sheetAnswer}
 use Rattle.sheet_cells.proofs.Cells.{sheet-accepted, sheet-entries}
-use Rattle.entries.proofs.Laws.{accepted-count}
+use Rattle.entries.proofs.Laws.{as-junction, accepted-count, size-accepted}
+use Rattle.point_start.specs.Start.{startEntries, startAnswer, started}
+use Rattle.entries.specs.Judging.{sizeAnswer}
 use Rattle.sheet.specs.Fill.{fillAnswer, filled}
 use Rattle.amend_reach.specs.Reach.{reached}
 use Rattle.amend_sets.specs.Amend.{Change, one, amendAnswer, amended, amendedBy, entriesBy, reachedBy, someReaches, entriesWith, withChanges}
@@ -37,20 +40,24 @@ use Rattle.diamond_rules.specs.Record.{judgedRecord, cellsSize, diamondAnswer}
 use Rattle.diamond_rules.specs.Lines.{diamond, rated}
 use Rattle.icu.specs.declared.IcuAnswer.{IcuAnswer}
 use Rattle.icu.specs.Told.{told}
-use Rattle.icu.specs.Calls.{fillAllows, amendAllows, siteAllows, writeAllows, listAllows, diamondAllows}
+use Rattle.icu.specs.Calls.{fillAllows, amendAllows, startAllows, siteAllows, writeAllows, listAllows, diamondAllows}
 use Rattle.icu_theorems.specs.Outcomes.{Yes, No, Run, SitesGiven, GivenAgain, Converts}
 use Rattle.icu_theorems.proofs.Told.{told-yes, told-no, told-new}
 
 -- refused
 
 module _ {said : IcuAnswer} {left : List ℕ} where
-  pub refused-fill : (e d : List ℕ) → fillAllows e d said left → No said → left ≡ d
+  pub refused-fill : (k : Worksheet) (e d : List ℕ) → fillAllows k e d said left → No said → left ≡ d
   unfolding filled
-  refused-fill e d allowed = told-no (fillAnswer e d) (sheet e) d (allowed .0) (allowed .1)
+  refused-fill k e d allowed = told-no (fillAnswer k e d) (sheetFor k e) d (allowed .0) (allowed .1)
 
-  pub refused-amendment : (d : List ℕ) (i v : ℕ) → amendAllows d i v said left → No said → left ≡ d
+  pub refused-amendment : (k : Worksheet) (d : List ℕ) (i v : ℕ) → amendAllows k d i v said left → No said → left ≡ d
   unfolding amendAnswer amended amendedTogether
-  refused-amendment d i v allowed = told-no (togetherAnswer d (one i v)) _ d (allowed .0) (allowed .1)
+  refused-amendment k d i v allowed = told-no (togetherAnswer k d (one i v)) _ d (allowed .0) (allowed .1)
+
+  pub refused-start : (old : List ℕ) → startAllows old said left → No said → left ≡ old
+  unfolding started
+  refused-start old allowed = told-no (startAnswer old) startEntries old (allowed .0) (allowed .1)
 
   pub refused-site : (f : List ℕ) (s : ℕ) (old : List ℕ) → siteAllows f s old said left → No said → left ≡ old
   refused-site f s old allowed = told-no (siteEntriesAnswer f s (length old)) (siteEntries f s) old (allowed .0) (allowed .1)
@@ -70,25 +77,42 @@ module _ {said : IcuAnswer} {left : List ℕ} where
 
 -- a fill
 
-fill-accepted : {said : IcuAnswer} {left : List ℕ} (e d : List ℕ) → fillAllows e d said left → Yes said → fillAnswer e d ≡ Accepted
-fill-accepted e d allowed = told-yes (fillAnswer e d) (allowed .0)
+fill-accepted :
+    {said : IcuAnswer} {left : List ℕ} (k : Worksheet) (e d : List ℕ) → fillAllows k e d said left → Yes said → fillAnswer k e d ≡ Accepted
+fill-accepted k e d allowed = told-yes (fillAnswer k e d) (allowed .0)
 
-pub acceptable-only : {said : IcuAnswer} {left : List ℕ} (e d : List ℕ) → fillAllows e d said left → Yes said → (judged e ≡ Accepted) × (length d ≡ sheetCount)
+pub acceptable-only :
+    {said : IcuAnswer} {left : List ℕ} (k : Worksheet) (e d : List ℕ) → fillAllows k e d said left → Yes said
+    → (judgedFor k e ≡ Accepted) × (length d ≡ sheetCount k)
 unfolding fillAnswer
-acceptable-only e d allowed is =
-    let both = both-accepted (sheetAnswer d) (judged e) (fill-accepted e d allowed is) in
-    (both .1, sheet-accepted d (both .0))
+acceptable-only k e d allowed is =
+    let both = both-accepted (sheetAnswer k d) (judgedFor k e) (fill-accepted k e d allowed is) in
+    (both .1, sheet-accepted k d (both .0))
 
-answer-accepted : (e d : List ℕ) → judged e ≡ Accepted → length d ≡ sheetCount → fillAnswer e d ≡ Accepted
+answer-accepted : (k : Worksheet) (e d : List ℕ) → judgedFor k e ≡ Accepted → length d ≡ sheetCount k → fillAnswer k e d ≡ Accepted
 unfolding fillAnswer sheetAnswer
-answer-accepted e d ok sized = rw (eq-eqb (length d) sheetCount sized) ok
+answer-accepted k e d ok sized = rw (eq-eqb (length d) (sheetCount k) sized) ok
 
-pub accepted-fill : {said : IcuAnswer} {left : List ℕ} (e d : List ℕ) → fillAllows e d said left → judged e ≡ Accepted → length d ≡ sheetCount → Yes said
-accepted-fill e d allowed ok sized = rw (allowed .0, answer-accepted e d ok sized)
+pub accepted-fill :
+    {said : IcuAnswer} {left : List ℕ} (k : Worksheet) (e d : List ℕ) → fillAllows k e d said left → judgedFor k e ≡ Accepted
+    → length d ≡ sheetCount k → Yes said
+accepted-fill k e d allowed ok sized = rw (allowed .0, answer-accepted k e d ok sized)
 
-pub filled-sheet : {said : IcuAnswer} {left : List ℕ} (e d : List ℕ) → fillAllows e d said left → Yes said → left ≡ sheet e
+pub filled-sheet :
+    {said : IcuAnswer} {left : List ℕ} (k : Worksheet) (e d : List ℕ) → fillAllows k e d said left → Yes said → left ≡ sheetFor k e
 unfolding filled
-filled-sheet e d allowed is = allowed .1 ∙ sym (renewed (sheet e) d (fill-accepted e d allowed is))
+filled-sheet k e d allowed is = allowed .1 ∙ sym (renewed (sheetFor k e) d (fill-accepted k e d allowed is))
+
+-- the starting entries
+
+pub started-entries :
+    {said : IcuAnswer} {left : List ℕ} (old : List ℕ) → startAllows old said left → length old ≡ entryCount → Yes said × (left ≡ startEntries)
+unfolding started sizeAnswer
+started-entries old allowed size =
+    told-new {answer = startAnswer old} startEntries old (allowed .0) (allowed .1) (rw (eq-eqb (length old) entryCount size))
+
+pub started-only : {said : IcuAnswer} {left : List ℕ} (old : List ℕ) → startAllows old said left → Yes said → length old ≡ entryCount
+started-only old allowed is = size-accepted old (told-yes (startAnswer old) (allowed .0) is)
 
 -- a diamond
 
@@ -114,39 +138,41 @@ rated-cells r d allowed is = allowed .1 ∙ sym (renewed (diamond r) d (diamond-
 -- an amendment
 
 pub amendment :
-    {said two : IcuAnswer} {before after : List ℕ} (e d : List ℕ) (i v : ℕ)
-    → fillAllows e d said before → Yes said → amendAllows before i v two after → Yes two → fillAllows (set e i v) d said after
+    {said two : IcuAnswer} {before after : List ℕ} (k : Worksheet) (e d : List ℕ) (i v : ℕ)
+    → fillAllows k e d said before → Yes said → amendAllows k before i v two after → Yes two → fillAllows k (set e i v) d said after
 unfolding filled entriesWith withChanges amendAnswer
-amendment {before = before} {after = after} e d i v fills is amends granted =
-    let ok = acceptable-only e d fills is in
-    let old = filled-sheet e d fills is in
-    let accepted : amendAnswer (sheet e) i v ≡ Accepted = rw old at (told-yes (amendAnswer before i v) (amends .0) granted) in
-    let judged-so : judged (set e i v) ≡ Accepted =
-    rw (sheet-entries e (accepted-count e (ok .0))) at (taken (sheet e) (one i v) accepted .fine) in
-    let new : after ≡ sheet (set e i v) = rw old at (amends .1) ∙ amended-is-fresh e (ok .0) i v accepted in
-    let fresh = answer-accepted (set e i v) d judged-so (ok .1) in
-    (fills .0 ∙ rw (fill-accepted e d fills is, fresh) refl, new ∙ renewed (sheet (set e i v)) d fresh)
+amendment {before = before} {after = after} k e d i v fills is amends granted =
+    let ok = acceptable-only k e d fills is in
+    let old = filled-sheet k e d fills is in
+    let accepted : amendAnswer k (sheetFor k e) i v ≡ Accepted = rw old at (told-yes (amendAnswer k before i v) (amends .0) granted) in
+    let judged-so : judgedFor k (set e i v) ≡ Accepted =
+    rw (sheet-entries k e (accepted-count e (as-junction k e (ok .0)))) at (taken k (sheetFor k e) (one i v) accepted .fine) in
+    let new : after ≡ sheetFor k (set e i v) = rw old at (amends .1) ∙ amended-is-fresh k e (ok .0) i v accepted in
+    let fresh = answer-accepted k (set e i v) d judged-so (ok .1) in
+    (fills .0 ∙ rw (fill-accepted k e d fills is, fresh) refl, new ∙ renewed (sheetFor k (set e i v)) d fresh)
 
 pub amendment-on-any-sheet :
-    {said : IcuAnswer} {after : List ℕ} (d : List ℕ) (i v k : ℕ) → amendAllows d i v said after → Yes said → k < length d
-    → getD after k 0 ≡ cond (reached i k) (getD (sheet (set (take entryCount d) i v)) k 0) (getD d k 0)
+    {said : IcuAnswer} {after : List ℕ} (k : Worksheet) (d : List ℕ) (i v c : ℕ) → amendAllows k d i v said after → Yes said → c < length d
+    → getD after c 0 ≡ cond (reached k i c) (getD (sheetFor k (set (take entryCount d) i v)) c 0) (getD d c 0)
 unfolding amendAnswer amended someReaches entriesWith withChanges
-amendment-on-any-sheet d i v k allowed is h =
-    rw (allowed .1) (all-cells d (one i v) (told-yes _ (allowed .0) is) k h ∙ rw (or-false (reached i k)))
+amendment-on-any-sheet k d i v c allowed is h =
+    rw (allowed .1) (all-cells k d (one i v) (told-yes _ (allowed .0) is) c h ∙ rw (or-false (reached k i c)))
 
 -- a run of amendments
 
-pub run-leaves : (run : List Change) (d after : List ℕ) → Run run d after → after ≡ amendedBy run d
-unfolding Run amendedBy
-run-leaves [] d after done = done
-run-leaves (c ∷ run) d after step = rw (step .allowed .1) at (run-leaves run (step .left) after (step .goes-on))
+module _ (k : Worksheet) where
+  pub run-leaves : (run : List Change) (d after : List ℕ) → Run k run d after → after ≡ amendedBy k run d
+  unfolding Run amendedBy
+  run-leaves [] d after done = done
+  run-leaves (c ∷ run) d after step = rw (step .allowed .1) at (run-leaves run (step .left) after (step .goes-on))
 
-pub run-of-amendments : (run : List Change) (e after : List ℕ) → judged e ≡ Accepted → Run run (sheet e) after → after ≡ sheet (entriesBy run e)
-run-of-amendments run e after ok steps = run-leaves run (sheet e) after steps ∙ run-is-fresh run e ok
+  pub run-of-amendments :
+      (run : List Change) (e after : List ℕ) → judgedFor k e ≡ Accepted → Run k run (sheetFor k e) after → after ≡ sheetFor k (entriesBy k run e)
+  run-of-amendments run e after ok steps = run-leaves run (sheetFor k e) after steps ∙ run-is-fresh k run e ok
 
-pub outside-the-reach :
-    (run : List Change) (d after : List ℕ) (k : ℕ) → Run run d after → k < length d → reachedBy run d k ≡ false → getD after k 0 ≡ getD d k 0
-outside-the-reach run d after k steps h out = rw (run-leaves run d after steps) (run-keeps run d k h out)
+  pub outside-the-reach :
+      (run : List Change) (d after : List ℕ) (c : ℕ) → Run k run d after → c < length d → reachedBy k run d c ≡ false → getD after c 0 ≡ getD d c 0
+  outside-the-reach run d after c steps h out = rw (run-leaves run d after steps) (run-keeps k run d c h out)
 
 -- study files
 

@@ -1,32 +1,38 @@
 -- The theorems that everything else serves, each with the name of its proof.
 --
--- What a call of the library answers and leaves is what a definition in crates/icu/specs/Calls.antt allows it: `fillAllows e d one
--- left` says that `icu_fill`, given the entries e and a sheet that holds d, may answer `one` and leave `left`. Calls.antt, beside
--- this file, shows it of the calls themselves: each keeps its promise, and its promise is that definition, word for word.
+-- What a call of the library answers and leaves is what a definition in crates/icu/specs/Calls.antt allows it: `fillAllows k e d one
+-- left` says that a fill of a sheet of kind k, `icu_fill` for a junction's and `icu_point_fill` for a single point's, given the entries e
+-- and a sheet that holds d, may answer `one` and leave `left`. Calls.antt, beside this file, shows it of the calls themselves: each keeps
+-- its promise, and its promise is that definition, word for word. What holds of both kinds of sheet is said once, of k.
 use mathlib.Core.Path.{_≡_, refl, sym, _∙_, ap}
 use mathlib.Core.Logic.{_≢_}
 use mathlib.Core.Bool.{true, false, cond}
 use mathlib.Core.List.{List, [], _∷_, map, replicate}
 use mathlib.Core.List.{length as size}
-use Prim.Native.Nat.{ℕ, _<_, _≤_, _*_, _/_}
+use Prim.Native.Nat.{ℕ, _+_, _<_, _≤_, _*_, _/_}
 use lib.Dec.{eqb}
 use lib.ListN.{length, getD, set, take, drop}
 use borrow.Author.Tests.{ne-eqb}
 use Rattle.units.specs.Rounding.{up}
 use Rattle.units.specs.Unit.{flowUnit}
-use Rattle.answers.specs.Answers.{_then_, left-by, refusalNumber}
+use Rattle.answers.specs.Answers.{_then_, left-by, lowest, refusalNumber}
 use Rattle.answers.specs.declared.Refusal.{Refusal}
-use Rattle.answers.specs.declared.Refusal.the-variants.{File, Owner, Full}
+use Rattle.answers.specs.declared.Refusal.the-variants.{Shared, File, Owner, Full}
 use Rattle.answers.specs.declared.Answer.the-variants.{Accepted, Refused}
+use Rattle.layout.specs.declared.Worksheet.{Worksheet}
+use Rattle.layout.specs.declared.Worksheet.the-variants.{Junction, Point}
 use Rattle.layout.specs.Entries.{approachCount, entryCount}
-use Rattle.layout.specs.Sheet.{BLANK, sheetCount}
-use Rattle.entries.specs.Judging.{judged}
+use Rattle.layout.specs.Sheet.{BLANK, lineCount, linesOf, sheetCount}
+use Rattle.entries.specs.Judging.{judgedFor, judged}
 use Rattle.kinds.specs.declared.Group.{Group}
 use Rattle.line_factors.specs.Factors.{factorOf}
 use Rattle.procedure.specs.declared.Approach.{Approach}
 use Rattle.procedure.specs.Lines.{flowOf, flowA, time}
 use Rattle.procedure.specs.Ranges.{Fair, FairCycle}
-use Rattle.procedure.specs.Sheet.{sheet}
+use Rattle.procedure.specs.Sheet.{linesAt, pairAt, rightAt, sheetFor, sheet}
+use Rattle.procedure.specs.Approach.{readApproach, isFree}
+use Rattle.procedure.specs.Pairs.{line, rightTotal}
+use Rattle.procedure.specs.Points.{example4, cells4, given4, startRated, startGiven}
 use Rattle.procedure.specs.Junctions.{workedOut, given, measuredOut, measuredGiven}
 use Rattle.procedure.proofs.Compared.{compared}
 use Rattle.procedure.proofs.Finer as finer
@@ -34,7 +40,7 @@ use Rattle.line_bounds.proofs.Permitted.{Refused as BlankMeans, lines-refused}
 use Rattle.line_bounds.proofs.Crossing as crossing
 use Rattle.sheet_cells.specs.Cells.{sheetAnswer}
 use Rattle.sheet.proofs.Fits.{sheet-fits}
-use Rattle.sheet.proofs.PairBlank.{PairBlank, pair-blank}
+use Rattle.sheet.proofs.PairBlank.{PairBlank, pair-blank, point-times}
 use Rattle.amend_reach.specs.Reach.{reached, merged}
 use Rattle.amend_sets.specs.Amend.{Change, withChanges, entriesWith, entryAnswer, togetherAnswer, someReaches, amendedTogether}
 use Rattle.amend_sets.specs.Amend.{amendAnswer, amended, amendedBy, entriesBy, reachedBy}
@@ -60,7 +66,10 @@ use Rattle.text_theorems.proofs.RoundTrip as texts
 use Rattle.page_form.specs.Form.{shownCount}
 use Rattle.page_form.proofs.Places.{OnPage, on-page}
 use Rattle.layout.specs.Diamond.{recordCount, planPick, bestCell, diamondCount}
-use Rattle.entries.specs.Layout.{cycle}
+use Rattle.entries.specs.Layout.{cycle, shared}
+use Rattle.entries.proofs.Laws.{as-junction}
+use Rattle.point_start.specs.Start.{startEntries}
+use Rattle.point_start.proofs.Laws.{start-accepted}
 use Rattle.diamond_rules.specs.declared.Side.{Side}
 use Rattle.diamond_rules.specs.Record.{west, east, cyclesAnswer, ownAnswer, judgedRecord}
 use Rattle.diamond_rules.specs.Lines.{below1, diamond}
@@ -78,11 +87,12 @@ use Rattle.open_theorems.proofs.Respect.{respects}
 use Rattle.open_theorems.proofs.Unwinding.{told-same, steps-same}
 use Rattle.icu.specs.declared.IcuAnswer.{IcuAnswer}
 use Rattle.icu.specs.Told.{told}
-use Rattle.icu.specs.Calls.{fillAllows, amendAllows, siteAllows, writeAllows, listAllows, checkAllows, countAllows, diamondAllows, Allowed}
+use Rattle.icu.specs.Calls.{fillAllows, amendAllows, startAllows, siteAllows, writeAllows, listAllows, checkAllows, countAllows, diamondAllows, Allowed}
 use Rattle.icu.specs.Calls.{openAddAllows, openAmendAllows, openReadAllows}
 use Rattle.icu_theorems.specs.Outcomes.{Yes, No, toCompare, Run, SitesGiven, GivenAgain, Converts}
 use Rattle.icu_theorems.specs.Offices.{openAllows, Heard, OpenRun}
 use Rattle.icu_theorems.proofs.Junctions.{acceptable}
+use Rattle.icu_theorems.proofs.Points as points
 use Rattle.icu_theorems.proofs.Outcomes as outcomes
 use Rattle.icu_theorems.proofs.Offices as offices
 
@@ -93,11 +103,15 @@ pub agree :
 agree p q = (p .0 ∙ sym (q .0), p .1 ∙ sym (q .1))
 
 module _ {one other : IcuAnswer} {left right : List ℕ} where
-  pub fill-agrees : (e d : List ℕ) → fillAllows e d one left → fillAllows e d other right → (one ≡ other) × (left ≡ right)
-  fill-agrees e d = agree
+  pub fill-agrees : (k : Worksheet) (e d : List ℕ) → fillAllows k e d one left → fillAllows k e d other right → (one ≡ other) × (left ≡ right)
+  fill-agrees k e d = agree
 
-  pub amend-agrees : (d : List ℕ) (i v : ℕ) → amendAllows d i v one left → amendAllows d i v other right → (one ≡ other) × (left ≡ right)
-  amend-agrees d i v = agree
+  pub amend-agrees :
+      (k : Worksheet) (d : List ℕ) (i v : ℕ) → amendAllows k d i v one left → amendAllows k d i v other right → (one ≡ other) × (left ≡ right)
+  amend-agrees k d i v = agree
+
+  pub start-agrees : (old : List ℕ) → startAllows old one left → startAllows old other right → (one ≡ other) × (left ≡ right)
+  start-agrees old = agree
 
   pub site-agrees : (f : List ℕ) (s : ℕ) (old : List ℕ) → siteAllows f s old one left → siteAllows f s old other right → (one ≡ other) × (left ≡ right)
   site-agrees f s old = agree
@@ -138,14 +152,17 @@ count-agrees f p q = p ∙ sym q
 
 -- DEMAND 1. Every call finishes and asks nothing of its caller: the check proves that of every function, and no call of the
 -- crate icu has a `requires`. A refusal comes exactly when the table says: the answers are the definitions' `fillAnswer`,
--- `amendAnswer`, `judgement`, `siteEntriesAnswer`, `writeAnswer`, `listAnswer`, `diamondAnswer`, and of an open study `addAnswer`,
+-- `amendAnswer`, `startAnswer`, `judgement`, `siteEntriesAnswer`, `writeAnswer`, `listAnswer`, `diamondAnswer`, and of an open study `addAnswer`,
 -- `amendSiteAnswer` and `readAnswer`. And a refusal alters nothing:
 module _ {one : IcuAnswer} {left : List ℕ} where
-  pub refused-fill : (e d : List ℕ) → fillAllows e d one left → No one → left ≡ d
+  pub refused-fill : (k : Worksheet) (e d : List ℕ) → fillAllows k e d one left → No one → left ≡ d
   refused-fill = outcomes.refused-fill
 
-  pub refused-amendment : (d : List ℕ) (i v : ℕ) → amendAllows d i v one left → No one → left ≡ d
+  pub refused-amendment : (k : Worksheet) (d : List ℕ) (i v : ℕ) → amendAllows k d i v one left → No one → left ≡ d
   refused-amendment = outcomes.refused-amendment
+
+  pub refused-start : (old : List ℕ) → startAllows old one left → No one → left ≡ old
+  refused-start = outcomes.refused-start
 
   pub refused-site : (f : List ℕ) (s : ℕ) (old : List ℕ) → siteAllows f s old one left → No one → left ≡ old
   refused-site = outcomes.refused-site
@@ -172,16 +189,20 @@ pub refused-open-reading :
     {one : IcuAnswer} {left : List ℕ} (S : Study) (office s : ℕ) (d : List ℕ) → openReadAllows S office s d one left → No one → left ≡ d
 refused-open-reading = offices.refused-read
 
--- DEMAND 2. Acceptable entries and a sheet's 221 cells are accepted, and nothing else is ..
-pub accepted-fill : {one : IcuAnswer} {left : List ℕ} (e d : List ℕ) → fillAllows e d one left → judged e ≡ Accepted → length d ≡ sheetCount → Yes one
+-- DEMAND 2. Acceptable entries and a sheet's cells, 221 or of a single point 175, are accepted, and nothing else is ..
+pub accepted-fill :
+    {one : IcuAnswer} {left : List ℕ} (k : Worksheet) (e d : List ℕ)
+    → fillAllows k e d one left → judgedFor k e ≡ Accepted → length d ≡ sheetCount k → Yes one
 accepted-fill = outcomes.accepted-fill
 
-pub acceptable-only : {one : IcuAnswer} {left : List ℕ} (e d : List ℕ) → fillAllows e d one left → Yes one → (judged e ≡ Accepted) × (length d ≡ sheetCount)
+pub acceptable-only :
+    {one : IcuAnswer} {left : List ℕ} (k : Worksheet) (e d : List ℕ)
+    → fillAllows k e d one left → Yes one → (judgedFor k e ≡ Accepted) × (length d ≡ sheetCount k)
 acceptable-only = outcomes.acceptable-only
 
--- .. and an accepted fill leaves the procedure, line by line: the 221 cells of `sheet e`. Its volumes are vehicles per hour; its flows,
+-- .. and an accepted fill leaves the procedure, line by line: the cells of `sheetFor k e`. Its volumes are vehicles per hour; its flows,
 -- lines 5–9 and 22, tenths of one (`flowUnit`), rounded down; its times milliseconds, rounded up.
-pub filled-sheet : {one : IcuAnswer} {left : List ℕ} (e d : List ℕ) → fillAllows e d one left → Yes one → left ≡ sheet e
+pub filled-sheet : {one : IcuAnswer} {left : List ℕ} (k : Worksheet) (e d : List ℕ) → fillAllows k e d one left → Yes one → left ≡ sheetFor k e
 filled-sheet = outcomes.filled-sheet
 
 -- The smaller unit of flows, beside the rules that counted them in whole vehicles: a flow of lines 5–9 is the one of then, cut finer ..
@@ -219,9 +240,13 @@ blank-only-where-refused s o CL fair cycle = lines-refused s CL fair cycle o
 pub blank-totals : (e : List ℕ) → judged e ≡ Accepted → (a o : ℕ) → a < approachCount → o < approachCount → PairBlank e a o
 blank-totals = pair-blank
 
--- .. and every cell of the sheet fits 32 bits.
-pub cells-fit : (e : List ℕ) → judged e ≡ Accepted → (k : ℕ) → getD (sheet e) k 0 ≤ BLANK
-cells-fit e accepted k = sheet-fits e accepted .at k
+-- .. and a single point's never ..
+pub point-totals : (e : List ℕ) → judgedFor Point e ≡ Accepted → (a o : ℕ) → a < approachCount → o < approachCount → getD (pairAt Point e a o) 0 0 < BLANK
+point-totals = point-times
+
+-- .. and every cell of a sheet fits 32 bits.
+pub cells-fit : (k : Worksheet) (e : List ℕ) → judgedFor k e ≡ Accepted → (c : ℕ) → getD (sheetFor k e) c 0 ≤ BLANK
+cells-fit k e accepted c = sheet-fits k e accepted .at c
 
 -- K1 to K10: every number that the rules give for them comes out of the definitions, and each junction is acceptable: so by
 -- `accepted-fill` and `filled-sheet` those numbers are what `icu_fill` leaves.
@@ -231,6 +256,45 @@ junctions = (compared .0, acceptable)
 -- And so do those of two junctions whose lanes were measured, one lane and shared lanes among them.
 pub measured-junctions : measuredOut ≡ measuredGiven
 measured-junctions = compared .1
+
+-- A SINGLE POINT. What is acceptable for one is acceptable for a junction, and of that exactly what shares no lane: SHARED, at the lowest
+-- approach that shares one.
+pub also-a-junction : (e : List ℕ) → judgedFor Point e ≡ Accepted → judged e ≡ Accepted
+also-a-junction = as-junction Point
+
+pub no-shared-lane : (e : List ℕ) → judged e ≡ Accepted → judgedFor Point e ≡ lowest (λ a. eqb (shared e a) 1) Shared 0 approachCount
+no-shared-lane = points.no-shared-lane
+
+-- Its lines are the junction's 1–18 ..
+pub lines-of-the-junction :
+    (e : List ℕ) → length e ≡ entryCount → (a t : ℕ) → a < approachCount → t < lineCount Point
+    → getD (sheetFor Point e) (linesOf Point a + t) 0 ≡ getD (sheet e) (linesOf Junction a + t) 0
+lines-of-the-junction = points.same-lines
+
+-- .. and, protected as all its phasing is, a right total goes by the cross through's 17 and the oncoming left's 16.
+pub protected-rights :
+    (e : List ℕ) (a o c d along across : ℕ)
+    → rightAt Point e a o c d (along ∷ []) (across ∷ [])
+    ≡ rightTotal (isFree (readApproach e a)) (linesAt Point e a o) (line 17 (linesAt Point e c d)) (line 16 (linesAt Point e o a))
+protected-rights = points.protected-rights
+
+-- A list of 93 numbers, and no other, is given the starting entries; they are acceptable, and their sheet is rated 0, letter A.
+module _ {one : IcuAnswer} {left : List ℕ} (old : List ℕ) (allowed : startAllows old one left) where
+  pub starting-entries : length old ≡ entryCount → Yes one × (left ≡ startEntries)
+  starting-entries = outcomes.started-entries old allowed
+
+  pub starting-only : Yes one → length old ≡ entryCount
+  starting-only = outcomes.started-only old allowed
+
+pub start-acceptable : judgedFor Point startEntries ≡ Accepted
+start-acceptable = start-accepted
+
+pub start-rated : startRated ≡ startGiven
+start-rated = compared .3
+
+-- The book's example 4 is acceptable and comes out of the definitions, cell by cell.
+pub example-4 : (judgedFor Point example4 ≡ Accepted) × (cells4 ≡ given4)
+example-4 = (points.example4-accepted, compared .2)
 
 -- A study file written and read back gives the same sites ..
 pub written-and-read :
@@ -274,57 +338,65 @@ long-file = studies.first-bytes-decide
 pub longest-listing : (file : List ℕ) → length (listing file) ≤ 6_120
 longest-listing = length-listing
 
--- DEMAND 3. An accepted amendment of one entry, on a sheet filled from acceptable entries, gives exactly what a fill of the
--- amended entries gives.
+-- DEMAND 3, on a sheet of either kind. An accepted amendment of one entry, on a sheet filled from acceptable entries, gives exactly what a
+-- fill of the amended entries gives.
 pub amendment :
-    {one two : IcuAnswer} {before after : List ℕ} (e d : List ℕ) (i v : ℕ)
-    → fillAllows e d one before → Yes one → amendAllows before i v two after → Yes two → fillAllows (set e i v) d one after
+    {one two : IcuAnswer} {before after : List ℕ} (k : Worksheet) (e d : List ℕ) (i v : ℕ)
+    → fillAllows k e d one before → Yes one → amendAllows k before i v two after → Yes two → fillAllows k (set e i v) d one after
 amendment = outcomes.amendment
 
 -- SIZE, ENTRY, then the entries as they would stand; and what the entry reaches is renewed
-pub amendment-answer : (d : List ℕ) (i v : ℕ) → amendAnswer d i v ≡ (sheetAnswer d then entryAnswer i then judged (set (take entryCount d) i v))
+pub amendment-answer :
+    (k : Worksheet) (d : List ℕ) (i v : ℕ)
+    → amendAnswer k d i v ≡ (sheetAnswer k d then entryAnswer i then judgedFor k (set (take entryCount d) i v))
 amendment-answer = one-answer
 
-pub amendment-sheet : (d : List ℕ) (i v : ℕ) → amended d i v ≡ left-by (amendAnswer d i v) (merged i (sheet (set (take entryCount d) i v)) d) d
+pub amendment-sheet :
+    (k : Worksheet) (d : List ℕ) (i v : ℕ)
+    → amended k d i v ≡ left-by (amendAnswer k d i v) (merged k i (sheetFor k (set (take entryCount d) i v)) d) d
 amendment-sheet = one-amended
 
 -- On any sheet at all, an accepted amendment leaves in every cell that its entry reaches the fresh fill of the amended entries,
 -- and every other cell as it was, whatever it held.
 pub amendment-on-any-sheet :
-    {one : IcuAnswer} {after : List ℕ} (d : List ℕ) (i v k : ℕ) → amendAllows d i v one after → Yes one → k < length d
-    → getD after k 0 ≡ cond (reached i k) (getD (sheet (set (take entryCount d) i v)) k 0) (getD d k 0)
+    {one : IcuAnswer} {after : List ℕ} (k : Worksheet) (d : List ℕ) (i v c : ℕ) → amendAllows k d i v one after → Yes one → c < length d
+    → getD after c 0 ≡ cond (reached k i c) (getD (sheetFor k (set (take entryCount d) i v)) c 0) (getD d c 0)
 amendment-on-any-sheet = outcomes.amendment-on-any-sheet
 
 -- A run of amendments leaves what making each in turn does.
-pub run-leaves : (run : List Change) (d after : List ℕ) → Run run d after → after ≡ amendedBy run d
+pub run-leaves : (k : Worksheet) (run : List Change) (d after : List ℕ) → Run k run d after → after ≡ amendedBy k run d
 run-leaves = outcomes.run-leaves
 
 -- Over any run of amendments, refused ones among them, a filled sheet becomes the fresh fill of its entries with the accepted
 -- changes made in order ..
-pub run-of-amendments : (run : List Change) (e after : List ℕ) → judged e ≡ Accepted → Run run (sheet e) after → after ≡ sheet (entriesBy run e)
+pub run-of-amendments :
+    (k : Worksheet) (run : List Change) (e after : List ℕ) → judgedFor k e ≡ Accepted → Run k run (sheetFor k e) after
+    → after ≡ sheetFor k (entriesBy k run e)
 run-of-amendments = outcomes.run-of-amendments
 
 -- .. and on any sheet at all no cell changes outside what the accepted amendments reach.
 pub outside-the-reach :
-    (run : List Change) (d after : List ℕ) (k : ℕ) → Run run d after → k < length d → reachedBy run d k ≡ false → getD after k 0 ≡ getD d k 0
+    (k : Worksheet) (run : List Change) (d after : List ℕ) (c : ℕ) → Run k run d after → c < length d → reachedBy k run d c ≡ false
+    → getD after c 0 ≡ getD d c 0
 outside-the-reach = outcomes.outside-the-reach
 
 -- CHANGES MADE TOGETHER, judged as all would stand: the amendment of one entry is their case of one. On a filled sheet an accepted
 -- set gives the fresh fill ..
 pub changes-together :
-    (e : List ℕ) → judged e ≡ Accepted → (changes : List Change) → togetherAnswer (sheet e) changes ≡ Accepted
-    → amendedTogether (sheet e) changes ≡ sheet (withChanges changes e)
-changes-together e ok changes = all-fresh e ok changes
+    (k : Worksheet) (e : List ℕ) → judgedFor k e ≡ Accepted → (changes : List Change) → togetherAnswer k (sheetFor k e) changes ≡ Accepted
+    → amendedTogether k (sheetFor k e) changes ≡ sheetFor k (withChanges changes e)
+changes-together k e ok changes = all-fresh k e ok changes
 
 -- .. on any sheet every cell that some change reaches holds the fresh fill and every other stays; refused, all stay.
 pub changes-on-any-sheet :
-    (d : List ℕ) (changes : List Change) → togetherAnswer d changes ≡ Accepted → (k : ℕ) → k < length d
-    → getD (amendedTogether d changes) k 0 ≡ cond (someReaches changes k) (getD (sheet (entriesWith d changes)) k 0) (getD d k 0)
+    (k : Worksheet) (d : List ℕ) (changes : List Change) → togetherAnswer k d changes ≡ Accepted → (c : ℕ) → c < length d
+    → getD (amendedTogether k d changes) c 0 ≡ cond (someReaches k changes c) (getD (sheetFor k (entriesWith d changes)) c 0) (getD d c 0)
 changes-on-any-sheet = all-cells
 
 pub refused-changes :
-    {why : Refusal} {place : ℕ} (d : List ℕ) (changes : List Change) → togetherAnswer d changes ≡ Refused why place → amendedTogether d changes ≡ d
-refused-changes d changes = all-stays d changes
+    {why : Refusal} {place : ℕ} (k : Worksheet) (d : List ℕ) (changes : List Change) → togetherAnswer k d changes ≡ Refused why place
+    → amendedTogether k d changes ≡ d
+refused-changes k d changes = all-stays k d changes
 
 -- A DIAMOND INTERCHANGE. An acceptable record and 29 cells are accepted, and nothing else is; the cells are then the worksheet's ..
 pub accepted-diamond :
@@ -426,15 +498,15 @@ not-its-own-amended = offices.owner-amending
 
 pub not-its-own-read :
     (S : Study) (o s : ℕ) (d : List ℕ) {one : IcuAnswer} {left : List ℕ} → openReadAllows S o s d one left
-    → studySize S ≡ Accepted → sheetAnswer d ≡ Accepted → owns (S .owners) o s ≡ false → one ≡ told (Refused Owner s)
+    → studySize S ≡ Accepted → sheetAnswer Junction d ≡ Accepted → owns (S .owners) o s ≡ false → one ≡ told (Refused Owner s)
 not-its-own-read = offices.owner-reading
 
 -- DEMAND 3 OF EACH SITE. From any start, a site of an office's own that is read after any run of calls by any offices is judged, and
 -- accepted is the fresh fill of its starting entries with its accepted changes made in order ..
 pub site-from-any-start :
     (o s : ℕ) (S : Study) (run : List Call) (end : Study) (heard : List Heard) (d : List ℕ) {one : IcuAnswer} {cells : List ℕ}
-    → studySize S ≡ Accepted → owns (S .owners) o s ≡ true → OpenRun o run S end heard → openReadAllows end o s d one cells → length d ≡ sheetCount
-    → let e = entriesBy (changesOf o s run) (blockAt (S .blocks) s) in (one ≡ told (judged e)) × (cells ≡ left-by (judged e) (sheet e) d)
+    → studySize S ≡ Accepted → owns (S .owners) o s ≡ true → OpenRun o run S end heard → openReadAllows end o s d one cells → length d ≡ sheetCount Junction
+    → let e = entriesBy Junction (changesOf o s run) (blockAt (S .blocks) s) in (one ≡ told (judged e)) × (cells ≡ left-by (judged e) (sheet e) d)
 site-from-any-start = offices.site-from-any-start
 
 -- .. and one that was added is always accepted: what the same amendments make of a lent sheet that was filled from its entries.
@@ -442,8 +514,8 @@ pub site-of-its-own :
     (o : ℕ) (S : Study) (e : List ℕ) (before : ℕ) (run : List Call) (end : Study) (heard : List Heard) (d : List ℕ)
     {one two : IcuAnswer} {left : Study} {place : ℕ} {cells : List ℕ}
     → openAddAllows S o e before one left place → Yes one → OpenRun o run left end heard
-    → openReadAllows end o place d two cells → length d ≡ sheetCount
-    → Yes two × (cells ≡ sheet (entriesBy (changesOf o place run) e)) × (cells ≡ amendedBy (changesOf o place run) (sheet e))
+    → openReadAllows end o place d two cells → length d ≡ sheetCount Junction
+    → Yes two × (cells ≡ sheet (entriesBy Junction (changesOf o place run) e)) × (cells ≡ amendedBy Junction (changesOf o place run) (sheet e))
 site-of-its-own = offices.site-read
 
 -- An add that is accepted gets the lowest free place; one that may be made is accepted exactly where a place is free ..
@@ -468,23 +540,23 @@ module _ (S : Study) (office : ℕ) (e : List ℕ) (before : ℕ) {one : IcuAnsw
 pub written-as-text : (e : List ℕ) → length e ≡ entryCount → AllBelow numberLimit e → parsed (junctionText e) .entries ≡ e
 written-as-text = texts.entries-back
 
--- .. and acceptable ones are read with nothing wrong: the reader leaves them, whatever its list held.
+-- .. and those acceptable for a sheet of a kind are read for it with nothing wrong: the reader leaves them, whatever its list held.
 pub accepted-as-text :
-    (e : List ℕ) → length e ≡ entryCount → AllBelow numberLimit e → judged e ≡ Accepted → reading (junctionText e) ≡ Read
+    (e : List ℕ) → length e ≡ entryCount → AllBelow numberLimit e → (k : Worksheet) → judgedFor k e ≡ Accepted → reading k (junctionText e) ≡ Read
 accepted-as-text = texts.read-back
 
 pub left-as-text :
-    (e : List ℕ) → length e ≡ entryCount → AllBelow numberLimit e → (old : List ℕ) → judged e ≡ Accepted
-    → keptUnlessRead (reading (junctionText e)) (parsed (junctionText e) .entries) old ≡ e
+    (e : List ℕ) → length e ≡ entryCount → AllBelow numberLimit e → (k : Worksheet) (old : List ℕ) → judgedFor k e ≡ Accepted
+    → keptUnlessRead (reading k (junctionText e)) (parsed (junctionText e) .entries) old ≡ e
 left-as-text = texts.left-back
 
 -- Every cell of a sheet, and every number beside it, stands on the printed page, in the row and the column that a list of changes tells of it.
-pub on-the-page : (cell : ℕ) → cell < shownCount → OnPage cell
+pub on-the-page : (k : Worksheet) (cell : ℕ) → cell < shownCount k → OnPage k cell
 on-the-page = on-page
 
 -- A text that is not read alters nothing.
-pub refused-text : (text new old : List ℕ) → (reading text ≡ Read → ⊥) → keptUnlessRead (reading text) new old ≡ old
-refused-text text new old = by (reading text)
+pub refused-text : (k : Worksheet) (text new old : List ℕ) → (reading k text ≡ Read → ⊥) → keptUnlessRead (reading k text) new old ≡ old
+refused-text k text new old = by (reading k text)
   where
     by : (r : Reading) → (r ≡ Read → ⊥) → keptUnlessRead r new old ≡ old
     by Read refused = absurd (refused refl)

@@ -4,6 +4,7 @@ use mathlib.Core.Path.{_≡_}
 use mathlib.Core.List.{List, [], _∷_}
 use Prim.Native.Nat.{ℕ, _<_, _≤_}
 use lib.ListN.{length}
+use Rattle.layout.specs.declared.Worksheet.{Worksheet}
 use Rattle.layout.specs.Entries.{entryCount}
 use Rattle.procedure.specs.Junctions.{K1, K2, K3, K4, K7, K8, K9, K10}
 use Rattle.amend_sets.specs.Amend.{Change}
@@ -25,17 +26,17 @@ No said = 0 < said .number
 abbrev pub toCompare : List (List ℕ)
 toCompare = K1 ∷ K2 ∷ K3 ∷ K4 ∷ K7 ∷ K8 ∷ K9 ∷ K10 ∷ []
 
--- one call of `icu_amend` on a sheet that holds d, and what follows on the sheet that it leaves
-pub record Step (d : List ℕ) (c : Change) (rest : List ℕ → Type 0) : Type 0 where
+-- one call of `icu_amend`, or of `icu_point_amend`, on a sheet of kind k that holds d, and what follows on the sheet that it leaves
+pub record Step (k : Worksheet) (d : List ℕ) (c : Change) (rest : List ℕ → Type 0) : Type 0 where
   pub said : IcuAnswer
   pub left : List ℕ
-  pub allowed : amendAllows d (c .entry) (c .value) said left
+  pub allowed : amendAllows k d (c .entry) (c .value) said left
   pub goes-on : rest left
 
--- a run of calls of `icu_amend`, each on the sheet that the one before it left, whatever each is answered
-unfoldable pub Run : List Change → List ℕ → List ℕ → Type 0
-Run [] d after = after ≡ d
-Run (c ∷ run) d after = Step d c (λ left. Run run left after)
+-- a run of such calls, each on the sheet that the one before it left, whatever each is answered
+unfoldable pub Run : Worksheet → List Change → List ℕ → List ℕ → Type 0
+Run k [] d after = after ≡ d
+Run k (c ∷ run) d after = Step k d c (λ left. Run k run left after)
 
 -- each site of a file is given
 pub record SitesGiven (file : List ℕ) : Type 0 where

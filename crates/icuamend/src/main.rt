@@ -6,8 +6,8 @@ use program_outcome::Call;
 use program_outcome::Input;
 use program_outcome::Lengths;
 
-// Room for a study, a site, the changes and the file to write.
-const WORDS_BYTES: usize = program_amend::MOST_WORDS * program_io::WORD_ROOM;
+// Room for the worksheet, a study, a site, the changes and the file to write.
+const WORDS_BYTES: usize = (1 + program_amend::MOST_WORDS) * program_io::WORD_ROOM;
 
 // Reads the file that the first word names, if there are as many arguments as there should be.
 fn read(count: usize, words: &[u8], area: &mut [u8; AREA_BYTES]) -> Input {
@@ -22,6 +22,7 @@ fn say(said: &[u8; program_amend::SAID_BYTES], size: usize) {
 }
 
 fn give(
+    arguments: usize,
     words: &[u8],
     printed: &[u8; program_amend::PRINTED_BYTES],
     written: &[u8; program_amend::WRITTEN_BYTES],
@@ -29,7 +30,7 @@ fn give(
 ) {
     program_io::give(
         b"icuamend",
-        program_words::word(words, program_amend::new_place(os::arg_count())),
+        program_words::word(words, program_amend::new_place(arguments)),
         program_outcome::front(printed, lengths.prints),
         program_outcome::front(written, lengths.writes),
         lengths.says == 0,
@@ -41,12 +42,18 @@ fn run(words: &[u8]) {
     let mut printed = [0u8; program_amend::PRINTED_BYTES];
     let mut written = [0u8; program_amend::WRITTEN_BYTES];
     let mut said = [0u8; program_amend::SAID_BYTES];
-    let arguments = os::arg_count();
-    let input = read(arguments, words, &mut area);
-    let call = Call { arguments, input };
-    let lengths = program_amend::run(call, words, &area, &mut printed, &mut written, &mut said);
+    let worksheet = program_wish::worksheet_of(words);
+    let rest = program_wish::words_for(worksheet, words);
+    let arguments = program_wish::arguments_for(worksheet, os::arg_count());
+    let input = read(arguments, rest, &mut area);
+    let call = Call {
+        worksheet,
+        arguments,
+        input,
+    };
+    let lengths = program_amend::run(call, rest, &area, &mut printed, &mut written, &mut said);
     say(&said, lengths.says);
-    give(words, &printed, &written, lengths);
+    give(arguments, rest, &printed, &written, lengths);
 }
 
 fn main() {

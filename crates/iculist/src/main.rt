@@ -1,5 +1,6 @@
 // Lists a study file, on standard input or named, to standard output. What is printed and said is the one call's to promise; the
 // rest is input and output.
+use layout::Worksheet;
 use libc::STDIN_FILENO;
 use program_list::PRINTED_BYTES;
 use program_outcome::AREA_BYTES;
@@ -31,7 +32,11 @@ fn run(words: &[u8]) {
     let mut said = [0u8; SAID_BYTES];
     let arguments = os::arg_count();
     let input = read(arguments, words, &mut area);
-    let call = Call { arguments, input };
+    let call = Call {
+        worksheet: Worksheet::Junction,
+        arguments,
+        input,
+    };
     let lengths = program_list::run(call, words, &area, &mut printed, &mut said);
     print(&printed, lengths.prints);
     program_io::say(&said, lengths.says);

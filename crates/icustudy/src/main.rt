@@ -1,5 +1,5 @@
-// Makes a study file of junctions' texts, prints a study's sites as texts, and writes a study of before as one of today. What is
-// printed, written and said is the calls' to promise; the rest is input and output.
+// Makes a study file of junctions' texts, prints a study's sites as texts, and a text to begin a single point interchange with, and
+// writes a study of before as one of today. What is printed, written and said is the calls' to promise; the rest is input and output.
 use program_make::ALL_ENTRIES;
 use program_outcome::AREA_BYTES;
 use program_outcome::SAID_BYTES;
@@ -104,6 +104,7 @@ fn run(words: &[u8]) {
         Job::Make => make(words, program_study::texts_in(count)),
         Job::Show => show(words),
         Job::Convert => convert(words),
+        Job::Point => tell(job),
         Job::TooMany => tell(job),
         Job::Use => tell(job),
         Job::Help => tell(job),

@@ -2,6 +2,7 @@
 -- eastbound (west ramp's left) and westbound, travel time": where each stands; and where the 29 cells do that are worked out of them.
 use Prim.Native.Nat.{ℕ, _+_, _*_}
 use Rattle.layout.specs.Entries.{entryCount, cycleEntry}
+use Rattle.layout.specs.declared.Worksheet.the-variants.{Junction}
 use Rattle.layout.specs.Sheet.{sheetCount}
 
 -- past the west junction's entries
@@ -72,7 +73,7 @@ diamondCount = diamondLetter + 1
 -- what a page shows, in one list: the sheets of both junctions, the record's own numbers, the cells, and of each storage
 -- N, 3600 times the storage, and whether its ratio is below 1
 abbrev pub pageOwn : ℕ
-pageOwn = sheetCount * sideCount
+pageOwn = sheetCount Junction * sideCount
 
 abbrev pub pageCells : ℕ
 pageCells = pageOwn + storageCount + 1

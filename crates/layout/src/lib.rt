@@ -2,6 +2,8 @@
 //
 // The definitions of the same names in specs/ say what the rules say; each function that leans on a number here is proved
 // against the definition.
+ghost use mathlib.Core.Path.{_≡_};
+ghost use Rattle.layout.specs.Sheet.{lineCount, pairCells, pairsFrom, lastFrom, sheetCount, besideNumbers};
 
 // EB, WB, NB, SB.
 pub const APPROACHES: usize = 4;
@@ -54,8 +56,17 @@ pub const CYCLE_ENTRY: usize = APPROACHES_FROM + APPROACH_ENTRIES * APPROACHES;
 
 pub const ENTRIES: usize = CYCLE_ENTRY + 1;
 
-// The lines of an approach.
+// A sheet's kind: the book's two worksheets with entries of their own.
+pub enum Worksheet {
+    Junction,
+    // a single point interchange, protected phasing only
+    Point,
+}
+
+// The lines of an approach, on a junction's sheet and on a single point's.
 pub const LINES: usize = 28;
+
+pub const POINT_LINES: usize = 18;
 
 // The first line of the first approach.
 pub const LINES_FROM: usize = ENTRIES;
@@ -65,34 +76,102 @@ pub const PAIRS: usize = 2;
 // The approaches of a pair.
 pub const IN_PAIR: usize = APPROACHES / PAIRS;
 
-// Protected, permitted, split, and which of them is picked.
+// Protected, permitted, split, and which of them is picked; of a single point, protected.
 pub const PAIR_CELLS: usize = 4;
 
-// The first cell of the first pair.
-pub const PAIRS_FROM: usize = LINES_FROM + LINES * APPROACHES;
+const POINT_PAIR_CELLS: usize = 1;
 
 // The right totals, combined, required, the ICU and its letter.
 pub const LAST_CELLS: usize = APPROACHES + 4;
 
-pub const LAST_FROM: usize = PAIRS_FROM + PAIR_CELLS * PAIRS;
-
-pub const CELLS: usize = LAST_FROM + LAST_CELLS;
-
 // What a pair's cells hold its pick in.
 pub const PICK: usize = 3;
-
-pub const COMBINED_CELL: usize = LAST_FROM + APPROACHES;
-
-pub const REQUIRED_CELL: usize = COMBINED_CELL + 1;
-
-pub const ICU_CELL: usize = REQUIRED_CELL + 1;
-
-pub const LETTER_CELL: usize = ICU_CELL + 1;
 
 // The numbers of each approach that a page shows beside the sheet's cells, past them in one list.
 pub const BESIDE_NUMBERS: usize = 5;
 
+const POINT_BESIDE_NUMBERS: usize = 2;
+
+// Where the pairs and the last cells of a junction's sheet stand.
+pub const PAIRS_FROM: usize = LINES_FROM + LINES * APPROACHES;
+
+pub const LAST_FROM: usize = PAIRS_FROM + PAIR_CELLS * PAIRS;
+
+pub const ICU_CELL: usize = LAST_FROM + APPROACHES + 2;
+
+pub const LETTER_CELL: usize = ICU_CELL + 1;
+
+pub const CELLS: usize = LAST_FROM + LAST_CELLS;
+
+// The most that a page shows: a junction's.
 pub const PAGE_CELLS: usize = CELLS + BESIDE_NUMBERS * APPROACHES;
+
+// And those of a single point's.
+const POINT_PAIRS_FROM: usize = LINES_FROM + POINT_LINES * APPROACHES;
+
+const POINT_LAST_FROM: usize = POINT_PAIRS_FROM + POINT_PAIR_CELLS * PAIRS;
+
+pub const POINT_CELLS: usize = POINT_LAST_FROM + LAST_CELLS;
+
+impl Worksheet {
+    // The lines of an approach.
+    pub fn lines(self) -> usize
+        ensures { λ r. ⌜ r ≡ lineCount self ⌝ }
+    {
+        match self {
+            Worksheet::Junction => LINES,
+            Worksheet::Point => POINT_LINES,
+        }
+    }
+
+    pub fn pair_cells(self) -> usize
+        ensures { λ r. ⌜ r ≡ pairCells self ⌝ }
+    {
+        match self {
+            Worksheet::Junction => PAIR_CELLS,
+            Worksheet::Point => POINT_PAIR_CELLS,
+        }
+    }
+
+    pub fn beside_numbers(self) -> usize
+        ensures { λ r. ⌜ r ≡ besideNumbers self ⌝ }
+    {
+        match self {
+            Worksheet::Junction => BESIDE_NUMBERS,
+            Worksheet::Point => POINT_BESIDE_NUMBERS,
+        }
+    }
+
+    // The first cell of the first pair.
+    pub fn pairs_from(self) -> usize
+        ensures { λ r. ⌜ r ≡ pairsFrom self ⌝ }
+    {
+        match self {
+            Worksheet::Junction => PAIRS_FROM,
+            Worksheet::Point => POINT_PAIRS_FROM,
+        }
+    }
+
+    // The first of the last cells.
+    pub fn last_from(self) -> usize
+        ensures { λ r. ⌜ r ≡ lastFrom self ⌝ }
+    {
+        match self {
+            Worksheet::Junction => LAST_FROM,
+            Worksheet::Point => POINT_LAST_FROM,
+        }
+    }
+
+    // All cells.
+    pub fn cells(self) -> usize
+        ensures { λ r. ⌜ r ≡ sheetCount self ⌝ }
+    {
+        match self {
+            Worksheet::Junction => CELLS,
+            Worksheet::Point => POINT_CELLS,
+        }
+    }
+}
 
 // What a cell holds where an option is not allowed; the largest number of 32 bits.
 pub const BLANK: u32 = 4_294_967_295;

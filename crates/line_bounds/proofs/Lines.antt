@@ -6,16 +6,19 @@ use Prim.Native.Nat.{ℕ, zero, suc, _≤_}
 use native.Mathlib.Nat.{le-trans}
 use native.Mathlib.Omega.{arith}
 use lib.Dec.{leb}
-use lib.ListN.{getD}
+use lib.ListN.{getD, take}
 use borrow.Author.Tests.{leb-true}
 use Rattle.lists.proofs.Tests.{both-true}
-use Rattle.layout.specs.Sheet.{BLANK}
+use Rattle.layout.specs.declared.Worksheet.{Worksheet}
+use Rattle.layout.specs.declared.Worksheet.the-variants.{Junction, Point}
+use Rattle.layout.specs.Sheet.{BLANK, lineCount}
 use Rattle.kinds.specs.declared.Kind.the-variants.{Volume}
 use Rattle.kinds.specs.declared.Group.the-variants.{Left, Through, Right}
 use Rattle.kinds.specs.Working.{mostOf}
 use Rattle.procedure.specs.declared.Approach.{Approach}
 use Rattle.procedure.specs.Ranges.{Fair, FairCycle}
-use Rattle.procedure.specs.Lines.{firstLines, laterLines, lines}
+use Rattle.procedure.specs.Lines.{adjusted, firstLines, laterLines, lines, linesFor}
+use Rattle.procedure.proofs.Worksheets.{lines-front}
 use Rattle.units.specs.Unit.{whole}
 use Rattle.line_bounds.specs.Bounds.{mostVolume, mostFlow, mostHeld, mostReference, mostAdjusted, mostEquivalent, mostMixed, Bounded}
 use Rattle.line_bounds.proofs.Flows.{volumes, factor-between, group-serving, straight-serving, lefts-serving}
@@ -38,6 +41,12 @@ pub under-fits : (ms : List ℕ) {xs : List ℕ} → fitting ms ≡ true → Und
 under-fits [] e none k = omega arith
 under-fits (m ∷ ms) e (h & hs) zero = le-trans h (leb-true m BLANK (both-true (leb m BLANK) (fitting ms) e .0))
 under-fits (m ∷ ms) e (h & hs) (suc k) = under-fits ms (both-true (leb m BLANK) (fitting ms) e .1) hs k
+
+-- the first of them, too
+under-front : (n : ℕ) {ms xs : List ℕ} → Under ms xs → Under (take n ms) (take n xs)
+under-front zero u = none
+under-front (suc n) none = none
+under-front (suc n) (h & hs) = h & under-front n hs
 
 -- what each of the lines is at most
 abbrev pub mostLines : List ℕ
@@ -70,17 +79,32 @@ module _ (s o : Approach) (CL : ℕ) (fair : Fair s) (cycle : FairCycle CL) wher
       & line27-most s CL fair cycle & line28-most s CL fair cycle
       & none
 
-  pub bounded-lines : Bounded (lines s o CL)
-  unfolding lines firstLines laterLines
-  bounded-lines =
-      record {
-        line16 = adjusted-most s CL fair cycle Left;
-        line17 = adjusted-most s CL fair cycle Through;
-        line18 = adjusted-most s CL fair cycle Right;
-        line26 = line26-weighed s CL fair cycle o .timely;
-        line28 = line28-most s CL fair cycle;
-      }
+  -- what a sheet of kind k has of them; a line that it has not is read as 0
+  pub bounded-lines : (k : Worksheet) → Bounded (linesFor k s o CL)
+  unfolding linesFor lines firstLines laterLines
+  bounded-lines k =
+      let left = adjusted-most s CL fair cycle Left in
+      let through = adjusted-most s CL fair cycle Through in
+      let right = adjusted-most s CL fair cycle Right in
+      by k left through right
+    where
+      by : (k : Worksheet) → adjusted s Left CL ≤ mostAdjusted → adjusted s Through CL ≤ mostAdjusted → adjusted s Right CL ≤ mostAdjusted
+          → Bounded (linesFor k s o CL)
+      by Junction left through right =
+          record {
+            line16 = left;
+            line17 = through;
+            line18 = right;
+            line26 = line26-weighed s CL fair cycle o .timely;
+            line28 = line28-most s CL fair cycle;
+          }
+      by Point left through right =
+          record { line16 = left; line17 = through; line18 = right; line26 = λ time. omega arith; line28 = omega arith }
 
   -- every line fits 32 bits
-  pub lines-fit : (k : ℕ) → getD (lines s o CL) k 0 ≤ BLANK
-  lines-fit = under-fits mostLines refl lines-most
+  pub lines-fit : (k : Worksheet) (i : ℕ) → getD (linesFor k s o CL) i 0 ≤ BLANK
+  lines-fit k = rw (lines-front k s o CL) (under-fits (take (lineCount k) mostLines) (all k) (under-front (lineCount k) lines-most))
+    where
+      all : (k : Worksheet) → fitting (take (lineCount k) mostLines) ≡ true
+      all Junction = refl
+      all Point = refl

@@ -1,6 +1,9 @@
 -- Working definitions: the stages' values as the cells of an approach, in the lines' order.
 use mathlib.Core.List.{List, [], _∷_, _++_}
 use Prim.Native.Nat.{ℕ}
+use lib.ListN.{take}
+use Rattle.layout.specs.declared.Worksheet.{Worksheet}
+use Rattle.layout.specs.Sheet.{lineCount}
 use Rattle.line_stages.specs.declared.Volumes.{Volumes}
 use Rattle.line_stages.specs.declared.Flows.{Flows}
 use Rattle.line_stages.specs.declared.Walking.{Walking}
@@ -30,3 +33,7 @@ laterCells x =
 
 abbrev pub cellsOf : Lines → List ℕ
 cellsOf x = firstCells (x .first) ++ laterCells (x .later)
+
+-- those that a sheet of kind k has
+abbrev pub cellsFor : Worksheet → Lines → List ℕ
+cellsFor k x = take (lineCount k) (cellsOf x)

@@ -5,6 +5,8 @@ use Rattle.units.specs.declared.Ms.{Ms}
 use Rattle.units.specs.declared.Vph.{Vph}
 use Rattle.units.specs.declared.Flow.{Flow}
 use Rattle.kinds.specs.declared.Group.the-variants.{Left, Through, Right}
+use Rattle.layout.specs.declared.Worksheet.{Worksheet}
+use Rattle.layout.specs.declared.Worksheet.the-variants.{Junction, Point}
 use Rattle.procedure.specs.declared.Approach.{Approach}
 use Rattle.procedure.specs.Lines.{a, b, volume, vST, fT, flow, sST, sSL, interference, F, reference, adjusted, vLL, q, leftShare, allowedA, allowedB, E, sA}
 use Rattle.procedure.specs.Lines.{line23, line24, line25, line26, line27, line28}
@@ -94,5 +96,18 @@ splitOf s CL = record { largest = ms (line27 s CL); weighted = ms (line28 s CL) 
 abbrev pub laterOf : Approach → Approach → ℕ → Later
 laterOf s o CL = record { lane = leftLaneOf s o CL; permitted = permittedOf s o CL; split = splitOf s CL }
 
-abbrev pub linesOf : Approach → Approach → ℕ → Lines
-linesOf s o CL = record { first = firstOf s CL; later = laterOf s o CL }
+-- a single point's sheet has none of them
+abbrev pub noLater : Later
+noLater =
+    record {
+      lane = record { heaviest = vph 0; share = 0; equivalent = 0; flow = carried 0 };
+      permitted = record { a = ms 0; b = ms 0; lesser = ms 0; weighted = ms 0 };
+      split = record { largest = ms 0; weighted = ms 0 };
+    }
+
+abbrev pub laterFor : Worksheet → Approach → Approach → ℕ → Later
+laterFor Junction s o CL = laterOf s o CL
+laterFor Point s o CL = noLater
+
+abbrev pub linesOf : Worksheet → Approach → Approach → ℕ → Lines
+linesOf k s o CL = record { first = firstOf s CL; later = laterFor k s o CL }

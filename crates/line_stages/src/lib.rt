@@ -84,6 +84,28 @@ pub struct Later {
     pub split: Split,
 }
 
+impl Later {
+    // Where a sheet has no such lines.
+    pub const NONE: Later = Later {
+        lane: LeftLane {
+            heaviest: Vph(0),
+            share: 0,
+            equivalent: 0,
+            flow: Flow(0),
+        },
+        permitted: Permitted {
+            a: Ms(0),
+            b: Ms(0),
+            lesser: Ms(0),
+            weighted: Ms(0),
+        },
+        split: Split {
+            largest: Ms(0),
+            weighted: Ms(0),
+        },
+    };
+}
+
 // All lines of an approach.
 pub struct Lines {
     pub first: First,

@@ -1,14 +1,18 @@
-// The 28 lines of an approach: 1–18, which look at the approach alone, then 19–28, which look across the street.
+// The lines of an approach: 1–18, which look at the approach alone, then 19–28, which look across the street.
 ghost use mathlib.Core.Path.{_≡_};
 ghost use Rattle.procedure.specs.Ranges.{Fair, FairCycle};
-ghost use Rattle.line_stages.specs.Stages.{volumesOf, firstOf, laterOf, linesOf};
-ghost use Rattle.line_stages.specs.Cells.{cellsOf};
+ghost use Rattle.line_stages.specs.Stages.{volumesOf, firstOf, laterOf, laterFor, linesOf};
+ghost use Rattle.line_stages.specs.Cells.{firstCells, laterCells};
 use kinds::Cycle;
+use layout::Worksheet;
 use line_stages::First;
 use line_stages::Later;
 use line_stages::Lines;
 use line_stages::Volumes;
 use procedure::Approach;
+
+// Those past a single point's.
+const LATER_LINES: usize = layout::LINES - layout::POINT_LINES;
 
 // Lines 1–18 of an approach.
 pub fn first_of(s: Approach, cycle: Cycle) -> First
@@ -42,22 +46,31 @@ pub fn later_of(s: Approach, o: Approach, x: First, w: Volumes, cycle: Cycle) ->
     }
 }
 
-// All lines of an approach, with o opposite it.
-pub fn lines_of(s: Approach, o: Approach, cycle: Cycle) -> Lines
+// Those of them that a sheet of a kind has.
+fn later_for(kind: Worksheet, s: Approach, o: Approach, x: First, cycle: Cycle) -> Later
+    requires { ⌜ Fair s × Fair o × (x ≡ firstOf s (cycle .0)) × FairCycle (cycle .0) ⌝ }
+    ensures { λ r. ⌜ r ≡ laterFor kind s o (cycle .0) ⌝ }
+{
+    match kind {
+        Worksheet::Junction => later_of(s, o, x, line_flows::volumes_of(o), cycle),
+        Worksheet::Point => Later::NONE,
+    }
+}
+
+// All lines of an approach on a sheet of a kind, with o opposite it.
+pub fn lines_of(kind: Worksheet, s: Approach, o: Approach, cycle: Cycle) -> Lines
     requires { ⌜ Fair s × Fair o × FairCycle (cycle .0) ⌝ }
-    ensures { λ r. ⌜ r ≡ linesOf s o (cycle .0) ⌝ }
+    ensures { λ r. ⌜ r ≡ linesOf kind s o (cycle .0) ⌝ }
 {
     let first = first_of(s, cycle);
-    let later = later_of(s, o, first, line_flows::volumes_of(o), cycle);
+    let later = later_for(kind, s, o, first, cycle);
     Lines { first, later }
 }
 
-// The lines as cells of a sheet, in their order.
-pub fn cells_of(lines: Lines) -> [u32; layout::LINES]
-    ensures { λ r. ⌜ r ≡ cellsOf lines ⌝ }
+// Lines 1–18 as cells, in their order.
+pub fn first_cells(x: First) -> [u32; layout::POINT_LINES]
+    ensures { λ r. ⌜ r ≡ firstCells x ⌝ }
 {
-    let x = lines.first;
-    let y = lines.later;
     [
         x.volumes.left.0,
         x.volumes.through.0,
@@ -77,6 +90,14 @@ pub fn cells_of(lines: Lines) -> [u32; layout::LINES]
         x.times.adjustedleft.0,
         x.times.adjustedthrough.0,
         x.times.adjustedright.0,
+    ]
+}
+
+// Lines 19–28.
+pub fn later_cells(y: Later) -> [u32; LATER_LINES]
+    ensures { λ r. ⌜ r ≡ laterCells y ⌝ }
+{
+    [
         y.lane.heaviest.0,
         y.lane.share,
         y.lane.equivalent,

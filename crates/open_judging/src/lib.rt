@@ -11,6 +11,7 @@ ghost use Rattle.open_rules.specs.Open.{mayAdd, amendSiteAnswer, readAnswer};
 use answers::Answer;
 use answers::Refusal;
 use layout::ENTRIES;
+use layout::Worksheet;
 use open_rules::FREE;
 
 fn check_study(owners: &[u32], blocks: &[u32]) -> Answer
@@ -106,7 +107,7 @@ pub fn judge_add(owners: &[u32], blocks: &[u32], office: u32, entries: &[u32]) -
     let Answer::Accepted = may else {
         return may;
     };
-    entries::judge(entries)
+    entries::judge(Worksheet::Junction, entries)
 }
 
 fn copy_block(blocks: &[u32], site: u32, entries: &mut [u32; ENTRIES])
@@ -119,7 +120,7 @@ fn copy_block(blocks: &[u32], site: u32, entries: &mut [u32; ENTRIES])
 fn judge(entries: &[u32; ENTRIES]) -> Answer
     ensures { λ r. ⌜ r ≡ judged (now (entries .entry)) ⌝ }
 {
-    entries::judge(entries)
+    entries::judge(Worksheet::Junction, entries)
 }
 
 // Judges a block's entries as they would stand with one of them changed.
@@ -156,10 +157,13 @@ pub fn judge_amend(
 pub fn judge_read(owners: &[u32], blocks: &[u32], office: u32, site: u32, sheet: &[u32]) -> Answer
     ensures { λ r. ⌜ r ≡ readAnswer (study (now (owners .entry)) (now (blocks .entry))) office site (now (sheet .entry)) ⌝ }
 {
-    let size = in_order(check_study(owners, blocks), sheet_cells::check_sheet(sheet));
+    let size = in_order(
+        check_study(owners, blocks),
+        sheet_cells::check_sheet(Worksheet::Junction, sheet),
+    );
     let may = in_order(size, check_own(owners, office, site));
     let Answer::Accepted = may else {
         return may;
     };
-    entries::judge(open_rules::block(blocks, site))
+    entries::judge(Worksheet::Junction, open_rules::block(blocks, site))
 }

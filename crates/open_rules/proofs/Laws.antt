@@ -14,6 +14,7 @@ use lib.Seq.{drop-cons}
 use borrow.Author.Tests.{eqb-true, eqb-false, eq-eqb, ne-eqb, leb-false, not-true, not-false}
 use Rattle.lists.proofs.Tests.{both-true}
 use Rattle.layout.specs.Entries.{entryCount}
+use Rattle.layout.specs.declared.Worksheet.the-variants.{Junction}
 use Rattle.layout.specs.Sheet.{sheetCount}
 use Rattle.layout.specs.Open.{placeCount, blocksCount}
 use Rattle.answers.specs.Answers.{_then_, refuse-if}
@@ -196,7 +197,7 @@ amends S office s i v accepted =
 
 pub record Reads (S : Study) (office s : ℕ) (d : List ℕ) : Type 0 where
   pub study : Whole S
-  pub cells : length d ≡ sheetCount
+  pub cells : length d ≡ sheetCount Junction
   pub own : owns (S .owners) office s ≡ true
   pub fine : judged (blockAt (S .blocks) s) ≡ Accepted
 
@@ -204,11 +205,11 @@ pub reads : (S : Study) (office s : ℕ) (d : List ℕ) → readAnswer S office 
 unfolding readAnswer
 reads S office s d accepted =
     let one = both-accepted (studySize S) _ accepted in
-    let two = both-accepted (sheetAnswer d) _ (one .1) in
+    let two = both-accepted (sheetAnswer Junction d) _ (one .1) in
     let three = both-accepted (siteOwner (S .owners) office s) _ (two .1) in
     record {
       study = whole S (one .0);
-      cells = sheet-accepted d (two .0);
+      cells = sheet-accepted Junction d (two .0);
       own = site-accepted (S .owners) office s (three .0);
       fine = three .1;
     }
@@ -221,7 +222,7 @@ read-accepted S office s d r =
 
 -- of an office's own site a reading is judged by the block alone
 pub read-judged :
-    (S : Study) (office s : ℕ) (d : List ℕ) → Whole S → owns (S .owners) office s ≡ true → length d ≡ sheetCount
+    (S : Study) (office s : ℕ) (d : List ℕ) → Whole S → owns (S .owners) office s ≡ true → length d ≡ sheetCount Junction
     → readAnswer S office s d ≡ judged (blockAt (S .blocks) s)
 unfolding readAnswer sheetAnswer
 read-judged S office s d study own cells = rw (whole-accepted S study, eq-eqb _ _ cells, own-accepted (S .owners) office s own)

@@ -6,6 +6,7 @@ use Prim.Native.Nat.{ℕ, suc}
 use lib.Dec.{eqb, leb}
 use lib.ListN.{length, getD, set, take, drop}
 use Rattle.lists.specs.Lists.{over}
+use Rattle.layout.specs.declared.Worksheet.the-variants.{Junction}
 use Rattle.layout.specs.Entries.{entryCount}
 use Rattle.layout.specs.Open.{placeCount, blocksCount, blockFrom, blockPlace}
 use Rattle.answers.specs.Answers.{_then_, refuse-if, left-by}
@@ -93,7 +94,7 @@ amendedBlocks S office s i v = left-by (amendSiteAnswer S office s i v) (withEnt
 
 -- A READING "fills a lent sheet", which holds d; blocks are lent, too, so that the block is judged
 unfoldable pub readAnswer : Study → ℕ → ℕ → List ℕ → Answer
-readAnswer S office s d = studySize S then sheetAnswer d then siteOwner (S .owners) office s then judged (blockAt (S .blocks) s)
+readAnswer S office s d = studySize S then sheetAnswer Junction d then siteOwner (S .owners) office s then judged (blockAt (S .blocks) s)
 
 unfoldable pub readSheet : Study → ℕ → ℕ → List ℕ → List ℕ
 readSheet S office s d = left-by (readAnswer S office s d) (sheet (blockAt (S .blocks) s)) d

@@ -7,6 +7,7 @@ ghost use Rattle.layout.specs.Entries.{entryCount};
 ghost use Rattle.layout.specs.Open.{placeCount, blocksCount};
 ghost use Rattle.open_rules.specs.Open.{study, withSite, addAnswer, added, addedPlace, amendSiteAnswer, amendedBlocks, readAnswer, readSheet};
 use answers::Answer;
+use layout::Worksheet;
 
 // Gives a place to an office, and the entries to its block.
 fn put_site(owners: &mut [u32], blocks: &mut [u32], place: usize, office: u32, entries: &[u32])
@@ -73,6 +74,6 @@ pub fn read(owners: &[u32], blocks: &[u32], office: u32, site: u32, sheet: &mut 
     let Answer::Accepted = judged else {
         return judged;
     };
-    sheet::write_fresh(open_rules::block(blocks, site), sheet);
+    sheet::write_fresh(Worksheet::Junction, open_rules::block(blocks, site), sheet);
     Answer::Accepted
 }

@@ -14,11 +14,12 @@ use Rattle.answers.specs.declared.Refusal.{Refusal}
 use Rattle.answers.specs.declared.Refusal.the-variants.{Size, Owner, Full}
 use Rattle.answers.specs.declared.Answer.{Answer}
 use Rattle.answers.specs.declared.Answer.the-variants.{Accepted, Refused}
+use Rattle.layout.specs.declared.Worksheet.the-variants.{Junction}
 use Rattle.layout.specs.Entries.{entryCount}
 use Rattle.layout.specs.Open.{placeCount, blocksCount}
 use Rattle.entries.specs.declared.Fault.{Fault}
 use Rattle.entries.specs.declared.Fault.the-variants.{Range, Shared, NoLane}
-use Rattle.entries.specs.Judging.{sizeAnswer, refusalOf, countOf, faulty, eachAnswer, judged}
+use Rattle.entries.specs.Judging.{sizeAnswer, refusalOf, countOf, faulty, eachAnswer, judgedFor, judged}
 use Rattle.open_rules.specs.Open.{Study, free, studySize, addOwner, lowestFree, fullAnswer, mayAdd, addAnswer}
 use Rattle.open_rules.proofs.Laws.{lowest-free, lower-taken}
 
@@ -42,10 +43,10 @@ fault-most Range = omega arith
 fault-most Shared = omega arith
 fault-most NoLane = omega arith
 
-each-most : (e : List ℕ) (fault : Fault) → numberOf (eachAnswer e fault) ≤ 9
+each-most : (e : List ℕ) (fault : Fault) → numberOf (eachAnswer Junction e fault) ≤ 9
 each-most e fault =
-    turn-most 9 (λ j. refuse-if (faulty e fault j) (refusalOf fault) j) 0 (countOf fault)
-    (λ j. if-most 9 (faulty e fault j) (refusalOf fault) j (fault-most fault))
+    turn-most 9 (λ j. refuse-if (faulty Junction e fault j) (refusalOf fault) j) 0 (countOf fault)
+    (λ j. if-most 9 (faulty Junction e fault j) (refusalOf fault) j (fault-most fault))
 
 size-most : (n count : ℕ) → numberOf (refuse-if (not (eqb n count)) Size 0) ≤ 9
 size-most n count = if-most 9 (not (eqb n count)) Size 0 (omega arith)
@@ -55,11 +56,11 @@ unfolding sizeAnswer
 entries-most e = size-most (length e) entryCount
 
 judged-most : (e : List ℕ) → numberOf (judged e) ≤ 9
-unfolding judged
+unfolding judgedFor
 judged-most e =
     then-most 9 (sizeAnswer e) _ (entries-most e)
-    (then-most 9 (eachAnswer e Range) _ (each-most e Range)
-    (then-most 9 (eachAnswer e Shared) (eachAnswer e NoLane) (each-most e Shared) (each-most e NoLane)))
+    (then-most 9 (eachAnswer Junction e Range) _ (each-most e Range)
+    (then-most 9 (eachAnswer Junction e Shared) (eachAnswer Junction e NoLane) (each-most e Shared) (each-most e NoLane)))
 
 study-most : (S : Study) → numberOf (studySize S) ≤ 9
 unfolding studySize

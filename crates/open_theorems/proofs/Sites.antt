@@ -9,6 +9,7 @@ use lib.Dec.{eqb}
 use lib.ListN.{length, set}
 use borrow.Author.Tests.{eqb-true, eqb-false, eq-eqb}
 use Rattle.lists.proofs.Tests.{both-true, not-both}
+use Rattle.layout.specs.declared.Worksheet.the-variants.{Junction}
 use Rattle.layout.specs.Sheet.{sheetCount}
 use Rattle.answers.specs.Answers.{_then_, left-by}
 use Rattle.answers.specs.declared.Answer.{Answer}
@@ -37,7 +38,7 @@ pub record Site (o s : ℕ) (S : Study) (e : List ℕ) : Type 0 where
 record Stepped (o s : ℕ) (c : Call) (S : Study) (e : List ℕ) : Type 0 where
   entries : List ℕ
   site : Site o s S entries
-  made : (later : List Change) → entriesBy (changeIn o s c later) e ≡ entriesBy later entries
+  made : (later : List Change) → entriesBy Junction (changeIn o s c later) e ≡ entriesBy Junction later entries
 
 module _ (o s : ℕ) {S : Study} {e : List ℕ} (at : Site o s S e) where
   grown-site : (office : ℕ) (f : List ℕ) (a : Adds S office f) → Site o s (grown S office f a) e
@@ -109,7 +110,7 @@ module _ (o s : ℕ) {S : Study} {e : List ℕ} (at : Site o s S e) where
   step (Read office p d) = record { entries = e; site = at; made = λ later. refl }
 
 -- over any run
-pub site-kept : (o s : ℕ) (run : List Call) {S : Study} {e : List ℕ} → Site o s S e → Site o s (after run S) (entriesBy (changesOf o s run) e)
+pub site-kept : (o s : ℕ) (run : List Call) {S : Study} {e : List ℕ} → Site o s S e → Site o s (after run S) (entriesBy Junction (changesOf o s run) e)
 unfolding after changesOf entriesBy
 site-kept o s [] at = at
 site-kept o s (c ∷ run) {S} {e} at =
@@ -117,7 +118,7 @@ site-kept o s (c ∷ run) {S} {e} at =
     rw (once .made (changesOf o s run)) (site-kept o s run (once .site))
 
 -- accepted changes keep entries acceptable
-pub still-fine : (changes : List Change) (e : List ℕ) → judged e ≡ Accepted → judged (entriesBy changes e) ≡ Accepted
+pub still-fine : (changes : List Change) (e : List ℕ) → judged e ≡ Accepted → judged (entriesBy Junction changes e) ≡ Accepted
 unfolding entriesBy
 still-fine [] e ok = ok
 still-fine (c ∷ changes) e ok = still-fine changes _ (by (entryAnswer (c .entry) then judged (set e (c .entry) (c .value))) refl)
@@ -139,7 +140,7 @@ added-site o S e told =
     }
 
 -- and acceptable entries are read as their sheet
-pub read-site : {o s : ℕ} {S : Study} {e : List ℕ} → Site o s S e → judged e ≡ Accepted → (d : List ℕ) → length d ≡ sheetCount
+pub read-site : {o s : ℕ} {S : Study} {e : List ℕ} → Site o s S e → judged e ≡ Accepted → (d : List ℕ) → length d ≡ sheetCount Junction
     → (readAnswer S o s d ≡ Accepted) × (readSheet S o s d ≡ sheet e)
 unfolding readSheet
 read-site {o} {s} {S} {e} at ok d cells =

@@ -10,6 +10,7 @@ use lib.ListN.{set}
 use Rattle.answers.specs.Answers.{_then_, left-by}
 use Rattle.answers.specs.declared.Answer.{Answer}
 use Rattle.answers.specs.declared.Answer.the-variants.{Accepted, Refused}
+use Rattle.layout.specs.declared.Worksheet.the-variants.{Junction}
 use Rattle.layout.specs.Entries.{entryCount}
 use Rattle.entries.specs.Judging.{judged}
 use Rattle.sheet_cells.specs.Cells.{sheetAnswer}
@@ -49,7 +50,7 @@ module _ {o : ℕ} {S T : Study} (alike : Alike o S T) where
 
   read-same : (s : ℕ) (d : List ℕ) → readAnswer S o s d ≡ readAnswer T o s d
   unfolding readAnswer
-  read-same s d = rw same-size (ap (λ rest. studySize T then sheetAnswer d then rest) (past-owner s judged))
+  read-same s d = rw same-size (ap (λ rest. studySize T then sheetAnswer Junction d then rest) (past-owner s judged))
 
   sheet-same : (s : ℕ) (d : List ℕ) → readSheet S o s d ≡ readSheet T o s d
   unfolding readSheet

@@ -1,16 +1,23 @@
-// The form of the printed worksheet: a table of its rows, and which cells stand in them: a sheet's, and those beside it.
+// The form of the printed worksheet, over the kind of sheet: a table of its rows, and which cells stand in them: a sheet's, and
+// those beside it.
 ghost use mathlib.Core.Path.{_≡_};
 ghost use mathlib.Core.Bool.{cond};
 ghost use Prim.Native.Nat.{_-_, _≤_, _<_};
 ghost use lib.Dec.{ltb};
 ghost use Rattle.layout.specs.Entries.{approachCount};
-ghost use Rattle.page_form.specs.Form.{titleByte, unitOf, rowCount, endOf, sectionBy};
+ghost use Rattle.page_form.specs.Form.{titleByte, unitOf, lines, pairs, rights, whole, beside, rowCount, endOf, sectionBy};
 ghost use Rattle.page_form.specs.Form.{sectionAt, sectionOf, cellIn, rowOf, columnOf};
-ghost use Rattle.page_form.specs.Working.{Small};
+ghost use Rattle.page_form.specs.Working.{mostRows, Small};
+use layout::Worksheet;
 
 pub const TITLE_WIDTH: usize = 35;
 
-pub const ROWS: usize = Section::BESIDE.row + Section::BESIDE.step;
+// The rows of a junction's page, the larger: to the last line, then the pairs', the last cells' and those beside, each headed.
+pub const ROWS: usize = LINES_ROW
+    + layout::LINES
+    + (HEADING + layout::PAIR_CELLS)
+    + (HEADING + 1 + WHOLE_CELLS)
+    + (HEADING + layout::BESIDE_NUMBERS);
 
 const TITLE_BYTES: usize = TITLE_WIDTH * ROWS;
 
@@ -87,6 +94,67 @@ const TITLES: [u8; TITLE_BYTES] = *b"no entry                     book :\
     R  cross through               47 s\
     R  oncoming left               49 s";
 
+// And those of a single point's page.
+const POINT_ROWS: usize = 55;
+
+const POINT_TITLE_BYTES: usize = TITLE_WIDTH * POINT_ROWS;
+
+const POINT_TITLES: [u8; POINT_TITLE_BYTES] = *b"no entry                     book :\
+    L  lanes                        2 n\
+    L  volume                       3 v\
+    L  ideal flow                   8 v\
+    L  lost time                    9 s\
+    L  minimum green               10 s\
+    L  lane factor                 13 F\
+    T  lanes                        2 n\
+    T  volume                       3 v\
+    T  ideal flow                   8 v\
+    T  lost time                    9 s\
+    T  minimum green               10 s\
+    T  lane factor                 13 F\
+    R  lanes                        2 n\
+    R  volume                       3 v\
+    R  ideal flow                   8 v\
+    R  lost time                    9 s\
+    R  minimum green               10 s\
+    R  lane factor                 13 F\
+    A  shared lane                  - n\
+    A  pedestrians                  4 p\
+    A  push button                  5 n\
+    A  pedestrian time              6 s\
+    A  free right                   7 n\
+    J  cycle, in seconds           11 n\
+    no line                      book :\
+    1  volume, left                12 v\
+    2  volume, through             12 v\
+    3  volume, right               12 v\
+    4  turning factor              14 f\
+    5  flow, left                  15 V\
+    6  flow, through               15 V\
+    7  flow, right                 15 V\
+    8  flow, separate through       - V\
+    9  flow, separate left          - V\
+    10 interference, right         16 s\
+    11 interference, through       16 s\
+    12 pedestrian frequency        17 f\
+    13 reference, left             18 s\
+    14 reference, through          18 s\
+    15 reference, right            18 s\
+    16 adjusted, left              19 s\
+    17 adjusted, through           19 s\
+    18 adjusted, right             19 s\
+    no pair                      book :\
+    P  protected                   20 s\
+    no junction                  book :\
+    R  right turns              22-27 s\
+    J  combined                    21 s\
+    J  required                    28 s\
+    J  ICU                         28 %\
+    J  level of service            29 A\
+    no beside the lines          book :\
+    R  cross through               24 s\
+    R  oncoming left               26 s";
+
 // Rows that go together. The cells of a column stand one after the other, a row each.
 pub struct Section {
     pub row: usize,
@@ -103,6 +171,12 @@ enum Counted {
 
 // A heading stands over the entries, the lines, the pairs, the last cells and what stands beside them.
 const HEADING: usize = 1;
+
+// The lines' first row, the same on each kind's page.
+const LINES_ROW: usize = Section::CYCLE.row + Section::CYCLE.step + HEADING;
+
+// Combined, required, the ICU and its letter.
+const WHOLE_CELLS: usize = layout::LAST_CELLS - layout::APPROACHES;
 
 impl Section {
     const MOVEMENTS: Section = Section {
@@ -126,40 +200,60 @@ impl Section {
         columns: 1,
     };
 
-    const LINES: Section = Section {
-        row: Section::CYCLE.row + Section::CYCLE.step + HEADING,
-        cell: layout::LINES_FROM,
-        step: layout::LINES,
-        columns: layout::APPROACHES,
-    };
+    fn lines(kind: Worksheet) -> Section
+        ensures { λ r. ⌜ (r ≡ lines kind) × Small r ⌝ }
+    {
+        Section {
+            row: LINES_ROW,
+            cell: layout::LINES_FROM,
+            step: kind.lines(),
+            columns: layout::APPROACHES,
+        }
+    }
 
-    const PAIRS: Section = Section {
-        row: Section::LINES.row + Section::LINES.step + HEADING,
-        cell: layout::PAIRS_FROM,
-        step: layout::PAIR_CELLS,
-        columns: layout::PAIRS,
-    };
+    fn pairs(kind: Worksheet) -> Section
+        ensures { λ r. ⌜ (r ≡ pairs kind) × Small r ⌝ }
+    {
+        Section {
+            row: Section::lines(kind).end(Counted::Rows) + HEADING,
+            cell: kind.pairs_from(),
+            step: kind.pair_cells(),
+            columns: layout::PAIRS,
+        }
+    }
 
-    const RIGHTS: Section = Section {
-        row: Section::PAIRS.row + Section::PAIRS.step + HEADING,
-        cell: layout::LAST_FROM,
-        step: 1,
-        columns: layout::APPROACHES,
-    };
+    fn rights(kind: Worksheet) -> Section
+        ensures { λ r. ⌜ (r ≡ rights kind) × Small r ⌝ }
+    {
+        Section {
+            row: Section::pairs(kind).end(Counted::Rows) + HEADING,
+            cell: kind.last_from(),
+            step: 1,
+            columns: layout::APPROACHES,
+        }
+    }
 
-    const WHOLE: Section = Section {
-        row: Section::RIGHTS.row + Section::RIGHTS.step,
-        cell: layout::COMBINED_CELL,
-        step: layout::LAST_CELLS - layout::APPROACHES,
-        columns: 1,
-    };
+    fn whole(kind: Worksheet) -> Section
+        ensures { λ r. ⌜ (r ≡ whole kind) × Small r ⌝ }
+    {
+        Section {
+            row: Section::rights(kind).end(Counted::Rows),
+            cell: kind.last_from() + layout::APPROACHES,
+            step: WHOLE_CELLS,
+            columns: 1,
+        }
+    }
 
-    const BESIDE: Section = Section {
-        row: Section::WHOLE.row + Section::WHOLE.step + HEADING,
-        cell: layout::CELLS,
-        step: layout::BESIDE_NUMBERS,
-        columns: layout::APPROACHES,
-    };
+    fn beside(kind: Worksheet) -> Section
+        ensures { λ r. ⌜ (r ≡ beside kind) × Small r ⌝ }
+    {
+        Section {
+            row: Section::whole(kind).end(Counted::Rows) + HEADING,
+            cell: kind.cells(),
+            step: kind.beside_numbers(),
+            columns: layout::APPROACHES,
+        }
+    }
 
     // The row or the cell past this section's.
     fn end(self, counted: Counted) -> usize
@@ -184,49 +278,65 @@ impl Section {
     }
 
     // The first section that has what stands at i before its end, else the last.
-    fn by(counted: Counted, i: usize) -> Section
-        ensures { λ r. ⌜ (r ≡ sectionBy counted i) × Small r ⌝ }
+    fn by(kind: Worksheet, counted: Counted, i: usize) -> Section
+        ensures { λ r. ⌜ (r ≡ sectionBy kind counted i) × Small r ⌝ }
     {
-        let from_whole = Section::WHOLE.or(counted, i, Section::BESIDE);
-        let from_rights = Section::RIGHTS.or(counted, i, from_whole);
-        let from_pairs = Section::PAIRS.or(counted, i, from_rights);
-        let from_lines = Section::LINES.or(counted, i, from_pairs);
+        let from_whole = Section::whole(kind).or(counted, i, Section::beside(kind));
+        let from_rights = Section::rights(kind).or(counted, i, from_whole);
+        let from_pairs = Section::pairs(kind).or(counted, i, from_rights);
+        let from_lines = Section::lines(kind).or(counted, i, from_pairs);
         let from_cycle = Section::CYCLE.or(counted, i, from_lines);
         let from_approaches = Section::APPROACHES.or(counted, i, from_cycle);
         Section::MOVEMENTS.or(counted, i, from_approaches)
     }
 
     // The section of a row; a heading goes with the rows under it.
-    pub fn at(row: usize) -> Section
-        ensures { λ r. ⌜ (r ≡ sectionAt row) × Small r ⌝ }
+    pub fn at(kind: Worksheet, row: usize) -> Section
+        ensures { λ r. ⌜ (r ≡ sectionAt kind row) × Small r ⌝ }
     {
-        Section::by(Counted::Rows, row)
+        Section::by(kind, Counted::Rows, row)
     }
 
     // The section of a cell.
-    pub fn of(cell: usize) -> Section
-        ensures { λ r. ⌜ (r ≡ sectionOf cell) × Small r ⌝ }
+    pub fn of(kind: Worksheet, cell: usize) -> Section
+        ensures { λ r. ⌜ (r ≡ sectionOf kind cell) × Small r ⌝ }
     {
-        Section::by(Counted::Cells, cell)
+        Section::by(kind, Counted::Cells, cell)
     }
 }
 
-// A byte of the titles, row after row; 0 past them.
-pub fn title_byte(i: usize) -> u8
-    ensures { λ r. ⌜ r ≡ titleByte i ⌝ }
+// The rows of a page.
+pub fn rows(kind: Worksheet) -> usize
+    ensures { λ r. ⌜ r ≡ rowCount kind ⌝ }
 {
-    if i < TITLE_BYTES {
-        return TITLES[i];
+    Section::beside(kind).end(Counted::Rows)
+}
+
+// A byte of the titles, row after row; 0 past them.
+pub fn title_byte(kind: Worksheet, i: usize) -> u8
+    ensures { λ r. ⌜ r ≡ titleByte kind i ⌝ }
+{
+    match kind {
+        Worksheet::Junction => {
+            if i < TITLE_BYTES {
+                return TITLES[i];
+            }
+        }
+        Worksheet::Point => {
+            if i < POINT_TITLE_BYTES {
+                return POINT_TITLES[i];
+            }
+        }
     }
     0
 }
 
 // A row's unit is its title's last byte.
-pub fn unit_of(row: usize) -> u8
-    requires { ⌜ row < rowCount ⌝ }
-    ensures { λ r. ⌜ r ≡ unitOf row ⌝ }
+pub fn unit_of(kind: Worksheet, row: usize) -> u8
+    requires { ⌜ row < mostRows ⌝ }
+    ensures { λ r. ⌜ r ≡ unitOf kind row ⌝ }
 {
-    title_byte(TITLE_WIDTH * row + (TITLE_WIDTH - 1))
+    title_byte(kind, TITLE_WIDTH * row + (TITLE_WIDTH - 1))
 }
 
 // How far a number is past another; 0 where it is not.
@@ -240,24 +350,24 @@ pub fn past(number: usize, from: usize) -> usize
 }
 
 // The cell in a column of a row.
-pub fn cell_in(row: usize, column: usize) -> usize
-    requires { ⌜ (row < rowCount) × (column < approachCount) ⌝ }
-    ensures { λ r. ⌜ r ≡ cellIn row column ⌝ }
+pub fn cell_in(kind: Worksheet, row: usize, column: usize) -> usize
+    requires { ⌜ (row < mostRows) × (column < approachCount) ⌝ }
+    ensures { λ r. ⌜ r ≡ cellIn kind row column ⌝ }
 {
-    let section = Section::at(row);
+    let section = Section::at(kind, row);
     section.cell + past(row, section.row) + section.step * column
 }
 
-pub fn row_of(cell: usize) -> usize
-    ensures { λ r. ⌜ (r ≡ rowOf cell) × (r < rowCount) ⌝ }
+pub fn row_of(kind: Worksheet, cell: usize) -> usize
+    ensures { λ r. ⌜ (r ≡ rowOf kind cell) × (r < mostRows) ⌝ }
 {
-    let section = Section::of(cell);
+    let section = Section::of(kind, cell);
     section.row + past(cell, section.cell) % section.step
 }
 
-pub fn column_of(cell: usize) -> usize
-    ensures { λ r. ⌜ r ≡ columnOf cell ⌝ }
+pub fn column_of(kind: Worksheet, cell: usize) -> usize
+    ensures { λ r. ⌜ r ≡ columnOf kind cell ⌝ }
 {
-    let section = Section::of(cell);
+    let section = Section::of(kind, cell);
     past(cell, section.cell) / section.step
 }

@@ -2,3 +2,4 @@ pub mod Fair
 pub mod Compared
 pub mod Finer
 pub mod Reading
+pub mod Worksheets

@@ -8,6 +8,7 @@ use Rattle.procedure.specs.Approach.{readApproach}
 use Rattle.procedure.specs.Lines.{leftShare, equivalent, leftA}
 use Rattle.procedure.specs.Pairs.{line, letterOf}
 use Rattle.layout.specs.Entries.{EB, WB, left, through, volumeNo, factorNo, walkersNo, crossingNo, movementPlace, approachPlace}
+use Rattle.layout.specs.declared.Worksheet.the-variants.{Junction}
 use Rattle.layout.specs.Sheet.{BLANK, protectedCell, permittedCell, splitCell, pickCell, combinedCell, requiredCell, icuCell, letterCell}
 use Rattle.procedure.specs.Sheet.{linesAt, sheet}
 
@@ -58,7 +59,7 @@ K10 = set K1 (movementPlace (left EB) volumeNo) 60
 
 -- EB's lines, and a cell of the sheet
 abbrev pub eb : List ℕ → List ℕ
-eb e = linesAt e EB WB
+eb e = linesAt Junction e EB WB
 
 abbrev pub cell : List ℕ → ℕ → ℕ
 cell e k = getD (sheet e) k 0
@@ -67,11 +68,11 @@ cell e k = getD (sheet e) k 0
 abbrev pub workedOut : List (List ℕ)
 workedOut =
     (line 5 (eb K1) ∷ line 6 (eb K1) ∷ line 13 (eb K1) ∷ line 16 (eb K1) ∷ line 14 (eb K1) ∷ line 17 (eb K1) ∷ cell K1 (protectedCell 0)
-    ∷ cell K1 requiredCell ∷ cell K1 icuCell ∷ cell K1 letterCell ∷ [])
+    ∷ cell K1 (requiredCell Junction) ∷ cell K1 (icuCell Junction) ∷ cell K1 (letterCell Junction) ∷ [])
     ∷ (line 4 (eb K2) ∷ line 6 (eb K2) ∷ line 20 (eb K2) ∷ line 21 (eb K2) ∷ line 22 (eb K2) ∷ line 23 (eb K2) ∷ cell K2 (splitCell 0)
-    ∷ cell K2 (permittedCell 0) ∷ cell K2 (pickCell 0) ∷ cell K2 combinedCell ∷ cell K2 icuCell ∷ cell K2 letterCell ∷ [])
+    ∷ cell K2 (permittedCell 0) ∷ cell K2 (pickCell 0) ∷ cell K2 (combinedCell Junction) ∷ cell K2 (icuCell Junction) ∷ cell K2 (letterCell Junction) ∷ [])
     ∷ (decayNumber (2 * 60 * 120) ∷ line 12 (eb K3) ∷ line 17 (eb K3) ∷ [])
-    ∷ (cell K4 icuCell ∷ cell K4 letterCell ∷ cell K4 (pickCell 0) ∷ cell K4 (pickCell 1) ∷ [])
+    ∷ (cell K4 (icuCell Junction) ∷ cell K4 (letterCell Junction) ∷ cell K4 (pickCell 0) ∷ cell K4 (pickCell 1) ∷ [])
     ∷ (letterOf 550 ∷ [])
     ∷ (letterOf 551 ∷ [])
     ∷ (line 24 (eb K7) ∷ [])

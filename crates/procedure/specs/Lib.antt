@@ -4,3 +4,4 @@ pub mod Pairs
 pub mod Sheet
 pub mod Ranges
 pub mod Junctions
+pub mod Points

@@ -7,6 +7,8 @@ use Prim.Native.Nat.{ℕ, _+_, _-_, _*_, _/_, max, min}
 use lib.Dec.{eqb, leb, ltb}
 use Rattle.units.specs.Rounding.{up}
 use Rattle.units.specs.Unit.{flowUnit, whole}
+use Rattle.layout.specs.declared.Worksheet.{Worksheet}
+use Rattle.layout.specs.declared.Worksheet.the-variants.{Junction, Point}
 use Rattle.layout.specs.Sheet.{BLANK}
 use Rattle.line_decay.specs.Decay.{decayNumber as D}
 use Rattle.line_factors.specs.Factors.{factorOf}
@@ -261,3 +263,8 @@ laterLines s o CL =
 
 unfoldable pub lines : Approach → Approach → ℕ → List ℕ
 lines s o CL = firstLines s CL ++ laterLines s o CL
+
+-- "28 lines of each approach"; on the sheet of a single point, Request Seven, "lines 1–18 of each approach"
+unfoldable pub linesFor : Worksheet → Approach → Approach → ℕ → List ℕ
+linesFor Junction s o CL = lines s o CL
+linesFor Point s o CL = firstLines s CL

@@ -5,9 +5,11 @@ use Prim.Native.Nat.{ℕ, zero, suc, _+_, _-_, max}
 use lib.Dec.{eqb, leb}
 use lib.ListN.{getD}
 use Rattle.units.specs.Rounding.{up}
-use Rattle.layout.specs.Sheet.{BLANK}
+use Rattle.layout.specs.declared.Worksheet.{Worksheet}
+use Rattle.layout.specs.declared.Worksheet.the-variants.{Junction, Point}
+use Rattle.layout.specs.Sheet.{BLANK, pickNo}
 
--- line k of an approach's 28
+-- line k of an approach
 abbrev pub line : ℕ → List ℕ → ℕ
 line k lines = getD lines (k - 1) 0
 
@@ -35,9 +37,14 @@ pair shared x y =
     let s = split x y in
     p ∷ m ∷ s ∷ picked p m s ∷ []
 
--- a pair's pick, and its picked time
+-- of a single point, Request Seven, "protected phasing only": "two protected totals", a pair's own alone
+unfoldable pub pairFor : Worksheet → Bool → List ℕ → List ℕ → List ℕ
+pairFor Junction shared x y = pair shared x y
+pairFor Point shared x y = protected shared x y ∷ []
+
+-- a pair's pick, and its picked time; one total alone leaves nothing to pick, and 0 stands for it
 abbrev pub pickOf : List ℕ → ℕ
-pickOf pair = getD pair 3 0
+pickOf pair = getD pair pickNo 0
 
 abbrev pub pickedTime : List ℕ → ℕ
 pickedTime pair = getD pair (pickOf pair) 0

@@ -10,7 +10,8 @@ use Rattle.answers.specs.Answers.{left-by}
 use Rattle.answers.specs.declared.Answer.{Answer}
 use Rattle.answers.specs.declared.Answer.the-variants.{Accepted, Refused as No}
 use Rattle.lists.proofs.Tests.{both-true}
-use Rattle.procedure.specs.Sheet.{sheet}
+use Rattle.layout.specs.declared.Worksheet.{Worksheet}
+use Rattle.procedure.specs.Sheet.{sheetFor}
 use Rattle.page.specs.Worksheet.{changeText}
 use Rattle.study.specs.Study.{isOld, judgement, sitesOf, siteAnswer, siteEntries}
 use Rattle.study_changed.specs.Changed.{withEntries}
@@ -76,16 +77,16 @@ left-nowhere (Bad why place) name word run {written = written} gone p =
     (left-unsought (Bad why place) name word run gone p, placed-nothing written 0)
 
 -- and where there is, what the changes came to is given
-pub left-given : (count : ℕ) (words file : List ℕ) {site : ℕ} {printed written said entries printed′ written′ said′ : List ℕ}
+pub left-given : (k : Worksheet) (count : ℕ) (words file : List ℕ) {site : ℕ} {printed written said entries printed′ written′ said′ : List ℕ}
     {done : Done} {lengths : Lengths} → sought file (wordAt words 1) ≡ Site site
-    → Came (changedBy words (changesIn count) (siteEntries file site)) said entries said′ done
-    → Placed printed 0 (cond (done .made) (changeText (sheetBefore (siteEntries file site)) (sheet entries)) []) printed′ (lengths .prints)
+    → Came (changedBy k words (changesIn count) (siteEntries file site)) said entries said′ done
+    → Placed printed 0 (cond (done .made) (changeText k (sheetBefore k (siteEntries file site)) (sheetFor k entries)) []) printed′ (lengths .prints)
     → Placed written 0 (cond (done .made && isKept count) (withEntries file site entries) []) written′ (lengths .writes)
     → lengths .says ≡ done .says
-    → Left (amendFile count words file) printed said printed′ said′ lengths
-    × Placed written 0 (amendFile count words file .writes) written′ (lengths .writes)
+    → Left (amendFile k count words file) printed said printed′ said′ lengths
+    × Placed written 0 (amendFile k count words file .writes) written′ (lengths .writes)
 unfolding amendFile amendSite changesGive
-left-given count words file found came prints writes says =
+left-given k count words file found came prints writes says =
     let written = rw (came .made, came .entries) at writes in
     rw found (
       record {
@@ -103,14 +104,14 @@ module _ (call : Call) (words area : List ℕ) where
   work-use wrong = rw wrong
 
   pub work-file : amendTakes (call .arguments) ≡ true
-      → amendWork call words area ≡ withFile (call .input) (wordAt words 0) area (amendStudy (call .arguments) words)
+      → amendWork call words area ≡ withFile (call .input) (wordAt words 0) area (amendStudy (call .worksheet) (call .arguments) words)
   unfolding amendWork
   work-file right = rw right
 
 -- of a file of before nothing is written, whatever is asked for
-pub old-unwritten : (count : ℕ) (words file : List ℕ) → isOld file ≡ true → amendStudy count words file .writes ≡ []
+pub old-unwritten : (k : Worksheet) (count : ℕ) (words file : List ℕ) → isOld file ≡ true → amendStudy k count words file .writes ≡ []
 unfolding amendStudy amendFile amendSite changesGive
-old-unwritten count words file old = by (isKept count) refl (sought file (wordAt words 1))
+old-unwritten k count words file old = by (isKept count) refl (sought file (wordAt words 1))
   where
     unkept : (made : Bool) (e : List ℕ) → cond (made && false) e [] ≡ []
     unkept true e = refl
@@ -118,10 +119,10 @@ old-unwritten count words file old = by (isKept count) refl (sought file (wordAt
 
     by : (kept : Bool) → isKept count ≡ kept → (this : Sought)
         → cond (kept && isOld file) (saying (named (wordAt words 0) oldText))
-        (withSite this (wordAt words 0) (wordAt words 1) (amendSite count words file)) .writes ≡ []
+        (withSite this (wordAt words 0) (wordAt words 1) (amendSite k count words file)) .writes ≡ []
     by true e this = rw old
     by false e (Site site) =
-        let so = changedBy words (changesIn count) (siteEntries file site) in
+        let so = changedBy k words (changesIn count) (siteEntries file site) in
         rw e (unkept (so .made) (withEntries file site (so .entries)))
     by false e (Missing sites) = refl
     by false e (Bad why place) = refl

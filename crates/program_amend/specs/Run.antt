@@ -1,11 +1,12 @@
--- What `icuamend` gives: what changes of entries change on a site's sheet, and the changed study; or what is said.
+-- What `icuamend` gives: what changes of entries change on a site's sheet of kind k, and the changed study; or what is said.
 use Prim.Native.Nat.{ℕ, _+_, _-_, _/_, _%_}
 use mathlib.Core.Bool.{Bool, cond, _&&_}
 use mathlib.Core.List.{List, [], _++_}
 use lib.Dec.{eqb, leb, ltb}
 use Rattle.answers.specs.Answers.{left-by}
-use Rattle.entries.specs.Judging.{judged}
-use Rattle.procedure.specs.Sheet.{sheet}
+use Rattle.layout.specs.declared.Worksheet.{Worksheet}
+use Rattle.entries.specs.Judging.{judgedFor}
+use Rattle.procedure.specs.Sheet.{sheetFor}
 use Rattle.page.specs.Worksheet.{changeText}
 use Rattle.study.specs.Study.{isOld, siteEntries}
 use Rattle.study_changed.specs.Changed.{withEntries}
@@ -44,8 +45,9 @@ newPlace count = count - 2
 
 unfoldable pub amendUse : List ℕ
 amendUse =
-    ascii "usage: icuamend STUDY SITE NAME ENTRY VALUE [NAME ENTRY VALUE ..] [NEW]\n"
+    ascii "usage: icuamend [--point] STUDY SITE NAME ENTRY VALUE [NAME ENTRY VALUE ..] [NEW]\n"
     ++ ascii "  prints what changes on the sheet of a site, from 1, as in: icuamend STUDY 1 EBT volume 450\n"
+    ++ ascii "  --point: on the sheet of a single point interchange\n"
     ++ ascii "  NAME: EBL EBT EBR .. SBR with lanes volume ideal-flow lost-time minimum-green lane-factor,\n"
     ++ ascii "        EB WB NB SB with shared-lane pedestrians push-button pedestrian-time free-right,\n"
     ++ ascii "        junction with cycle; at most 20 changes, one after the other\n"
@@ -54,38 +56,39 @@ amendUse =
 -- the changes ----------------------------------------------------------------------------------------------------------
 
 -- the sheet before the changes: no cells, where the entries are refused
-abbrev pub sheetBefore : List ℕ → List ℕ
-sheetBefore e = left-by (judged e) (sheet e) []
+abbrev pub sheetBefore : Worksheet → List ℕ → List ℕ
+sheetBefore k e = left-by (judgedFor k e) (sheetFor k e) []
 
 -- where a change was made: all that changes is printed, and the study, in which the site has the changed entries, is written if it
 -- is to be kept
-unfoldable pub changesGive : List ℕ → ℕ → Bool → List ℕ → Changes → Outcome
-changesGive file site kept e so =
+unfoldable pub changesGive : Worksheet → List ℕ → ℕ → Bool → List ℕ → Changes → Outcome
+changesGive k file site kept e so =
     record {
-      prints = cond (so .made) (changeText (sheetBefore e) (sheet (so .entries))) [];
+      prints = cond (so .made) (changeText k (sheetBefore k e) (sheetFor k (so .entries))) [];
       writes = cond (so .made && kept) (withEntries file site (so .entries)) [];
       says = so .says;
     }
 
 -- of a site that the file has
-unfoldable pub amendSite : ℕ → List ℕ → List ℕ → ℕ → Outcome
-amendSite count words file site =
-    changesGive file site (isKept count) (siteEntries file site) (changedBy words (changesIn count) (siteEntries file site))
+unfoldable pub amendSite : Worksheet → ℕ → List ℕ → List ℕ → ℕ → Outcome
+amendSite k count words file site =
+    changesGive k file site (isKept count) (siteEntries file site) (changedBy k words (changesIn count) (siteEntries file site))
 
 -- the words: a study, a site, the changes; the name of the file to write, if any
-unfoldable pub amendFile : ℕ → List ℕ → List ℕ → Outcome
-amendFile count words file = withSite (sought file (wordAt words 1)) (wordAt words 0) (wordAt words 1) (amendSite count words file)
+unfoldable pub amendFile : Worksheet → ℕ → List ℕ → List ℕ → Outcome
+amendFile k count words file = withSite (sought file (wordAt words 1)) (wordAt words 0) (wordAt words 1) (amendSite k count words file)
 
 -- a study of before is not written: where the changed one is to be kept, it is to be converted first
 unfoldable pub oldText : List ℕ
 oldText = ascii "a study of before (ICUS), which is not written any more: first icustudy convert it\n"
 
-unfoldable pub amendStudy : ℕ → List ℕ → List ℕ → Outcome
-amendStudy count words file = cond (isKept count && isOld file) (saying (named (wordAt words 0) oldText)) (amendFile count words file)
+unfoldable pub amendStudy : Worksheet → ℕ → List ℕ → List ℕ → Outcome
+amendStudy k count words file = cond (isKept count && isOld file) (saying (named (wordAt words 0) oldText)) (amendFile k count words file)
 
 unfoldable pub amendWork : Call → List ℕ → List ℕ → Outcome
 amendWork call words area =
-    cond (amendTakes (call .arguments)) (withFile (call .input) (wordAt words 0) area (amendStudy (call .arguments) words)) (saying amendUse)
+    cond (amendTakes (call .arguments)) (withFile (call .input) (wordAt words 0) area (amendStudy (call .worksheet) (call .arguments) words))
+    (saying amendUse)
 
 -- how it is called, or its version, where that is asked for
 abbrev pub asWished : Wish → Outcome → Outcome

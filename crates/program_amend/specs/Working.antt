@@ -2,4 +2,4 @@
 use Prim.Native.Nat.{ℕ}
 
 abbrev pub useMost : ℕ
-useMost = 512
+useMost = 640

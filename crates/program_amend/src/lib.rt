@@ -6,8 +6,9 @@ ghost use Prim.Native.Nat.{_+_, _≤_};
 ghost use lib.ListN.{length};
 ghost use Rattle.answers.specs.Answers.{left-by};
 ghost use Rattle.answers.specs.declared.Answer.the-variants.{Accepted};
-ghost use Rattle.entries.specs.Judging.{judged};
-ghost use Rattle.procedure.specs.Sheet.{sheet};
+ghost use Rattle.layout.specs.Sheet.{sheetCount};
+ghost use Rattle.entries.specs.Judging.{judgedFor};
+ghost use Rattle.procedure.specs.Sheet.{sheetFor};
 ghost use Rattle.page.specs.Worksheet.{changeText};
 ghost use Rattle.study.specs.Study.{icut, isOld, formatOf, siteAnswer};
 ghost use Rattle.study_changed.specs.Changed.{withEntries};
@@ -21,6 +22,8 @@ ghost use Rattle.program_amend.specs.Working.{useMost};
 use answers::Answer;
 use layout::CELLS;
 use layout::ENTRIES;
+use layout::POINT_CELLS;
+use layout::Worksheet;
 use program_changes::CHANGE_WORDS;
 use program_changes::CHANGES_FROM;
 use program_changes::MOST_CHANGES;
@@ -47,8 +50,10 @@ const NAME: usize = 0;
 
 const SITE: usize = 1;
 
-// What changes came to: the site, whether the study is to be kept, whether a change was made, and how many bytes are said.
+// What changes came to: the sheet's kind, the site, whether the study is to be kept, whether a change was made, and how many bytes are
+// said.
 pub struct Given {
+    pub worksheet: Worksheet,
     pub site: u32,
     pub kept: bool,
     pub made: bool,
@@ -105,47 +110,75 @@ pub fn new_place(count: usize) -> usize
 }
 
 // Lists what changed since a sheet that was filled, or not.
-fn list_since(
+pub fn list_changes(
+    kind: Worksheet,
     filled: Answer,
     before: &[u32],
     after: &[u32],
     printed: &mut [u8; PRINTED_BYTES],
 ) -> usize
-    ensures { λ r. ⌜ Placed (now (printed .entry)) 0 (changeText (left-by filled (now (before .entry)) []) (now (after .entry))) (now (printed .exit)) r ⌝ }
+    ensures { λ r. ⌜ Placed (now (printed .entry)) 0
+        (changeText kind (left-by filled (now (before .entry)) []) (now (after .entry))) (now (printed .exit)) r ⌝ }
 {
     match filled {
-        Answer::Accepted => page::changes(before, after, printed),
-        Answer::Refused(_, _) => page::changes(&before[..0], after, printed),
+        Answer::Accepted => page::changes(kind, before, after, printed),
+        Answer::Refused(_, _) => page::changes(kind, &before[..0], after, printed),
     }
 }
 
-// The same of whole sheets.
-pub fn list_changes(
-    filled: Answer,
-    before: &[u32; CELLS],
-    after: &[u32; CELLS],
+// Prints what acceptable entries change on the sheet of other entries, both filled in lent cells.
+fn print_from(
+    kind: Worksheet,
+    entries: &[u32; ENTRIES],
+    changed: &[u32; ENTRIES],
+    before: &mut [u32],
+    after: &mut [u32],
     printed: &mut [u8; PRINTED_BYTES],
 ) -> usize
-    ensures { λ r. ⌜ Placed (now (printed .entry)) 0 (changeText (left-by filled (now (before .entry)) []) (now (after .entry))) (now (printed .exit)) r ⌝ }
+    requires { ⌜ (length (now before) ≡ sheetCount kind) × (length (now after) ≡ sheetCount kind) × (judgedFor kind (now changed) ≡ Accepted) ⌝ }
+    ensures { λ r. ⌜ Placed (now (printed .entry)) 0
+        (changeText kind (sheetBefore kind (now (entries .entry))) (sheetFor kind (now (changed .entry)))) (now (printed .exit)) r ⌝ }
 {
-    list_since(filled, before, after, printed)
+    let filled = sheet::fill(kind, entries, before);
+    sheet::fill(kind, changed, after);
+    list_changes(kind, filled, before, after, printed)
 }
 
-// Prints what acceptable entries change on the sheet of other entries.
+// The same, with as many cells as a sheet of the kind has.
 fn print_changes(
+    kind: Worksheet,
     entries: &[u32; ENTRIES],
     changed: &[u32; ENTRIES],
     printed: &mut [u8; PRINTED_BYTES],
 ) -> usize
-    requires { ⌜ judged (now changed) ≡ Accepted ⌝ }
+    requires { ⌜ judgedFor kind (now changed) ≡ Accepted ⌝ }
     ensures { λ r. ⌜ Placed (now (printed .entry)) 0
-        (changeText (sheetBefore (now (entries .entry))) (sheet (now (changed .entry)))) (now (printed .exit)) r ⌝ }
+        (changeText kind (sheetBefore kind (now (entries .entry))) (sheetFor kind (now (changed .entry)))) (now (printed .exit)) r ⌝ }
 {
-    let mut before = [0u32; CELLS];
-    let mut after = [0u32; CELLS];
-    let filled = sheet::fill(entries, &mut before);
-    sheet::fill(changed, &mut after);
-    list_changes(filled, &before, &after, printed)
+    match kind {
+        Worksheet::Junction => {
+            let mut before = [0u32; CELLS];
+            print_from(
+                kind,
+                entries,
+                changed,
+                &mut before,
+                &mut [0u32; CELLS],
+                printed,
+            )
+        }
+        Worksheet::Point => {
+            let mut before = [0u32; POINT_CELLS];
+            print_from(
+                kind,
+                entries,
+                changed,
+                &mut before,
+                &mut [0u32; POINT_CELLS],
+                printed,
+            )
+        }
+    }
 }
 
 // Makes the study in which a site has these entries, if it is to be kept.
@@ -175,18 +208,20 @@ fn give(
     written: &mut [u8; WRITTEN_BYTES],
 ) -> Lengths
     requires { ⌜ (siteAnswer (now file) (given .site) ≡ Accepted) × (given .kept ≡ true → formatOf (now file) ≡ icut)
-        × (given .made ≡ true → judged (now changed) ≡ Accepted) ⌝ }
+        × (given .made ≡ true → judgedFor (given .worksheet) (now changed) ≡ Accepted) ⌝ }
     ensures { λ r. ⌜ Placed (now (printed .entry)) 0
-        (cond (given .made) (changeText (sheetBefore (now (entries .entry))) (sheet (now (changed .entry)))) []) (now (printed .exit)) (r .prints) ⌝ }
+        (cond (given .made) (changeText (given .worksheet) (sheetBefore (given .worksheet) (now (entries .entry)))
+        (sheetFor (given .worksheet) (now (changed .entry)))) []) (now (printed .exit)) (r .prints) ⌝ }
     ensures { λ r. ⌜ Placed (now (written .entry)) 0
         (cond (given .made && given .kept) (withEntries (now (file .entry)) (given .site) (now (changed .entry))) []) (now (written .exit)) (r .writes) ⌝ }
     ensures { λ r. ⌜ r .says ≡ given .says ⌝ }
 {
+    let kind = given.worksheet;
     let says = given.says;
     if !given.made {
         return program_outcome::only_said(says);
     }
-    let prints = print_changes(entries, changed, printed);
+    let prints = print_changes(kind, entries, changed, printed);
     let writes = write_site(file, given.site, given.kept, changed, written);
     Lengths {
         prints,
@@ -213,18 +248,21 @@ fn say_unread(name: &[u8], said: &mut [u8; SAID_BYTES]) -> usize
 
 // Changes entries of the site that a word names.
 fn amend_file(
+    call: Call,
     file: &[u8],
     words: &[u8],
-    count: usize,
     printed: &mut [u8; PRINTED_BYTES],
     written: &mut [u8; WRITTEN_BYTES],
     said: &mut [u8; SAID_BYTES],
 ) -> Lengths
-    requires { ⌜ (amendTakes count ≡ true) × (isKept count ≡ true → formatOf (now file) ≡ icut) ⌝ }
-    ensures { λ r. ⌜ Left (amendFile count (now (words .entry)) (now (file .entry)))
+    requires { ⌜ (amendTakes (call .arguments) ≡ true) × (isKept (call .arguments) ≡ true → formatOf (now file) ≡ icut) ⌝ }
+    ensures { λ r. ⌜ Left (amendFile (call .worksheet) (call .arguments) (now (words .entry)) (now (file .entry)))
         (now (printed .entry)) (now (said .entry)) (now (printed .exit)) (now (said .exit)) r ⌝ }
-    ensures { λ r. ⌜ Placed (now (written .entry)) 0 (amendFile count (now (words .entry)) (now (file .entry)) .writes) (now (written .exit)) (r .writes) ⌝ }
+    ensures { λ r. ⌜ Placed (now (written .entry)) 0
+        (amendFile (call .worksheet) (call .arguments) (now (words .entry)) (now (file .entry)) .writes) (now (written .exit)) (r .writes) ⌝ }
 {
+    let worksheet = call.worksheet;
+    let count = call.arguments;
     let name = program_words::word(words, NAME);
     let word = program_words::word(words, SITE);
     let mut entries = [0u32; ENTRIES];
@@ -232,8 +270,10 @@ fn amend_file(
     match sought {
         Sought::Site(site) => {
             let mut changed = entries;
-            let done = program_changes::change_all(words, changes_in(count), &mut changed, said);
+            let changes = changes_in(count);
+            let done = program_changes::change_all(worksheet, words, changes, &mut changed, said);
             let given = Given {
+                worksheet,
                 site,
                 kept: is_kept(count),
                 made: done.made,
@@ -262,23 +302,24 @@ fn say_old(name: &[u8], said: &mut [u8; SAID_BYTES]) -> usize
 // Changes entries of the site that a word names, unless the changed study is to be kept and the file is one of before, which is not
 // written.
 fn amend_study(
+    call: Call,
     file: &[u8],
     words: &[u8],
-    count: usize,
     printed: &mut [u8; PRINTED_BYTES],
     written: &mut [u8; WRITTEN_BYTES],
     said: &mut [u8; SAID_BYTES],
 ) -> Lengths
-    requires { ⌜ amendTakes count ≡ true ⌝ }
-    ensures { λ r. ⌜ Left (amendStudy count (now (words .entry)) (now (file .entry)))
+    requires { ⌜ amendTakes (call .arguments) ≡ true ⌝ }
+    ensures { λ r. ⌜ Left (amendStudy (call .worksheet) (call .arguments) (now (words .entry)) (now (file .entry)))
         (now (printed .entry)) (now (said .entry)) (now (printed .exit)) (now (said .exit)) r ⌝ }
-    ensures { λ r. ⌜ Placed (now (written .entry)) 0 (amendStudy count (now (words .entry)) (now (file .entry)) .writes) (now (written .exit)) (r .writes) ⌝ }
+    ensures { λ r. ⌜ Placed (now (written .entry)) 0
+        (amendStudy (call .worksheet) (call .arguments) (now (words .entry)) (now (file .entry)) .writes) (now (written .exit)) (r .writes) ⌝ }
 {
-    if is_kept(count) && study::is_old(file) {
+    if is_kept(call.arguments) && study::is_old(file) {
         let name = program_words::word(words, NAME);
         return program_outcome::only_said(say_old(name, said));
     }
-    amend_file(file, words, count, printed, written, said)
+    amend_file(call, file, words, printed, written, said)
 }
 
 // Puts how the program is called to the front.
@@ -289,8 +330,9 @@ fn put_use(out: &mut [u8]) -> usize
     text::put_bytes(
         out,
         0,
-        b"usage: icuamend STUDY SITE NAME ENTRY VALUE [NAME ENTRY VALUE ..] [NEW]\n  \
+        b"usage: icuamend [--point] STUDY SITE NAME ENTRY VALUE [NAME ENTRY VALUE ..] [NEW]\n  \
         prints what changes on the sheet of a site, from 1, as in: icuamend STUDY 1 EBT volume 450\n  \
+        --point: on the sheet of a single point interchange\n  \
         NAME: EBL EBT EBR .. SBR with lanes volume ideal-flow lost-time minimum-green lane-factor,\n        \
         EB WB NB SB with shared-lane pedestrians push-button pedestrian-time free-right,\n        \
         junction with cycle; at most 20 changes, one after the other\n  \
@@ -311,8 +353,7 @@ fn work(
         (now (printed .entry)) (now (said .entry)) (now (printed .exit)) (now (said .exit)) r ⌝ }
     ensures { λ r. ⌜ Placed (now (written .entry)) 0 (amendWork call (now (words .entry)) (now (area .entry)) .writes) (now (written .exit)) (r .writes) ⌝ }
 {
-    let count = call.arguments;
-    if !takes(count) {
+    if !takes(call.arguments) {
         return program_outcome::only_said(put_use(said));
     }
     let input = call.input;
@@ -321,7 +362,7 @@ fn work(
         return program_outcome::only_said(say_unread(name, said));
     };
     let file = program_outcome::front(area, size);
-    amend_study(file, words, count, printed, written, said)
+    amend_study(call, file, words, printed, written, said)
 }
 
 // What `icuamend` gives; its study was read into the area.

@@ -1,4 +1,5 @@
--- The changes that `icuamend` is asked for: "as all entries would stand" each is judged; one that is not made is told and passed over.
+-- The changes that `icuamend` is asked for, of entries for a sheet of kind k: "as all entries would stand" each is judged; one that is
+-- not made is told and passed over.
 use Prim.Native.Nat.{ℕ, zero, suc, _+_, _*_}
 use mathlib.Core.Bool.{Bool, true, false, cond, _||_}
 use mathlib.Core.List.{List, [], _++_}
@@ -6,9 +7,10 @@ use lib.ListN.{set}
 use lib.Dec.{eqb, leb, ltb}
 use Rattle.answers.specs.declared.Answer.{Answer}
 use Rattle.answers.specs.declared.Answer.the-variants.{Accepted, Refused as No}
+use Rattle.layout.specs.declared.Worksheet.{Worksheet}
 use Rattle.layout.specs.Entries.{entryCount}
 use Rattle.kinds.specs.Kinds.{kindAt}
-use Rattle.entries.specs.Judging.{judged}
+use Rattle.entries.specs.Judging.{judgedFor}
 use Rattle.text.specs.Text.{ascii}
 use Rattle.text_names.specs.Names.{titleCount, rowOf, entryNamed}
 use Rattle.text_phrases.specs.Phrases.{numbered}
@@ -55,13 +57,13 @@ abbrev pub verdictBy : Answer → ℕ → ℕ → Verdict
 verdictBy Accepted i value = Made i value
 verdictBy (No why place) i value = Refused why place
 
-abbrev pub verdictFor : Asked → List ℕ → Verdict
-verdictFor (Change i value) e = verdictBy (judged (set e i value)) i value
-verdictFor (Unclear wrong) e = Unmade wrong
+abbrev pub verdictFor : Worksheet → Asked → List ℕ → Verdict
+verdictFor k (Change i value) e = verdictBy (judgedFor k (set e i value)) i value
+verdictFor k (Unclear wrong) e = Unmade wrong
 
 -- what a change of entries comes to
-unfoldable pub verdictOf : List ℕ → List ℕ → List ℕ → List ℕ → Verdict
-verdictOf title kind value e = verdictFor (askedOf title kind value) e
+unfoldable pub verdictOf : Worksheet → List ℕ → List ℕ → List ℕ → List ℕ → Verdict
+verdictOf k title kind value e = verdictFor k (askedOf title kind value) e
 
 -- the entries afterwards
 abbrev pub entriesAfter : Verdict → List ℕ → List ℕ
@@ -83,9 +85,9 @@ changesFrom = 2
 abbrev pub changeWords : ℕ
 changeWords = 3
 
--- a word of change n, from 0
+-- word j of change n, from 0
 abbrev pub wordOfChange : List ℕ → ℕ → ℕ → List ℕ
-wordOfChange words n k = wordAt words (changesFrom + changeWords * n + k)
+wordOfChange words n j = wordAt words (changesFrom + changeWords * n + j)
 
 abbrev pub titleIn : List ℕ → ℕ → List ℕ
 titleIn words n = wordOfChange words n 0
@@ -96,8 +98,8 @@ kindIn words n = wordOfChange words n 1
 abbrev pub valueIn : List ℕ → ℕ → List ℕ
 valueIn words n = wordOfChange words n 2
 
-unfoldable pub verdictIn : List ℕ → ℕ → List ℕ → Verdict
-verdictIn words n e = verdictOf (titleIn words n) (kindIn words n) (valueIn words n) e
+unfoldable pub verdictIn : Worksheet → List ℕ → ℕ → List ℕ → Verdict
+verdictIn k words n e = verdictOf k (titleIn words n) (kindIn words n) (valueIn words n) e
 
 -- what is said of a change that is not made
 abbrev pub wrongIn : Wrong → List ℕ → ℕ → List ℕ
@@ -132,10 +134,10 @@ withVerdict several words n verdict so =
     }
 
 -- the first n changes, one after the other
-unfoldable pub changesTo : Bool → List ℕ → List ℕ → ℕ → Changes
-changesTo several words e zero = record { entries = e; made = false; says = [] }
-changesTo several words e (suc n) =
-    withVerdict several words n (verdictIn words n (changesTo several words e n .entries)) (changesTo several words e n)
+unfoldable pub changesTo : Worksheet → Bool → List ℕ → List ℕ → ℕ → Changes
+changesTo k several words e zero = record { entries = e; made = false; says = [] }
+changesTo k several words e (suc n) =
+    withVerdict several words n (verdictIn k words n (changesTo k several words e n .entries)) (changesTo k several words e n)
 
-abbrev pub changedBy : List ℕ → ℕ → List ℕ → Changes
-changedBy words changes e = changesTo (ltb 1 changes) words e changes
+abbrev pub changedBy : Worksheet → List ℕ → ℕ → List ℕ → Changes
+changedBy k words changes e = changesTo k (ltb 1 changes) words e changes

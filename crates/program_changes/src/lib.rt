@@ -4,7 +4,7 @@ ghost use mathlib.Core.Bool.{_||_};
 ghost use Prim.Native.Nat.{_+_, _≤_, _<_};
 ghost use lib.ListN.{length, take, set};
 ghost use Rattle.layout.specs.Entries.{entryCount};
-ghost use Rattle.entries.specs.Judging.{judged};
+ghost use Rattle.entries.specs.Judging.{judgedFor};
 ghost use Rattle.text.specs.Text.{Placed};
 ghost use Rattle.program_changes.specs.Changes.{mostChanges, askedOf, wrongText, verdictBy, verdictOf, entriesAfter, isMade};
 ghost use Rattle.program_changes.specs.Changes.{changeWords, wordOfChange, verdictIn, wrongIn, verdictText, heading, told, changedBy};
@@ -13,6 +13,7 @@ use answers::Answer;
 use answers::Refusal;
 use kinds::Kind;
 use layout::ENTRIES;
+use layout::Worksheet;
 use program_outcome::Remark;
 use text_values::Trouble;
 use text_values::Value;
@@ -99,21 +100,21 @@ pub fn say_wrong(
     }
 }
 
-fn judge(entries: &[u32; ENTRIES]) -> Answer
-    ensures { λ r. ⌜ r ≡ judged (now (entries .entry)) ⌝ }
+fn judge(worksheet: Worksheet, entries: &[u32; ENTRIES]) -> Answer
+    ensures { λ r. ⌜ r ≡ judgedFor worksheet (now (entries .entry)) ⌝ }
 {
-    entries::judge(entries)
+    entries::judge(worksheet, entries)
 }
 
 // Gives an entry its new value, if the entries are acceptable as they would stand.
-fn try_entry(entries: &mut [u32; ENTRIES], entry: u32, value: u32) -> Verdict
+fn try_entry(worksheet: Worksheet, entries: &mut [u32; ENTRIES], entry: u32, value: u32) -> Verdict
     requires { ⌜ entry < entryCount ⌝ }
-    ensures { λ r. ⌜ r ≡ verdictBy (judged (set (now (entries .entry)) entry value)) entry value ⌝ }
+    ensures { λ r. ⌜ r ≡ verdictBy (judgedFor worksheet (set (now (entries .entry)) entry value)) entry value ⌝ }
     ensures { λ r. ⌜ now (entries .exit) ≡ entriesAfter r (now (entries .entry)) ⌝ }
 {
     let mut changed = *entries;
     changed[entry as usize] = value;
-    let answer = judge(&changed);
+    let answer = judge(worksheet, &changed);
     match answer {
         Answer::Accepted => {
             *entries = changed;
@@ -124,32 +125,39 @@ fn try_entry(entries: &mut [u32; ENTRIES], entry: u32, value: u32) -> Verdict
 }
 
 // Makes the change that three words ask for, if it can be made.
-fn change(title: &[u8], kind: &[u8], value: &[u8], entries: &mut [u32; ENTRIES]) -> Verdict
-    ensures { λ r. ⌜ r ≡ verdictOf (now (title .entry)) (now (kind .entry)) (now (value .entry)) (now (entries .entry)) ⌝ }
+fn change(
+    worksheet: Worksheet,
+    title: &[u8],
+    kind: &[u8],
+    value: &[u8],
+    entries: &mut [u32; ENTRIES],
+) -> Verdict
+    ensures { λ r. ⌜ r ≡ verdictOf worksheet (now (title .entry)) (now (kind .entry)) (now (value .entry)) (now (entries .entry)) ⌝ }
     ensures { λ r. ⌜ now (entries .exit) ≡ entriesAfter r (now (entries .entry)) ⌝ }
 {
     match asked_by(title, kind, value) {
-        Asked::Change(entry, number) => try_entry(entries, entry, number),
+        Asked::Change(entry, number) => try_entry(worksheet, entries, entry, number),
         Asked::Unclear(wrong) => Verdict::Unmade(wrong),
     }
 }
 
-// Word k of change n.
-fn word_of(words: &[u8], n: usize, k: usize) -> &[u8]
-    requires { ⌜ (n < mostChanges) × (k < changeWords) ⌝ }
-    ensures { λ r. ⌜ now r ≡ wordOfChange (now (words .entry)) n k ⌝ }
+// Word j of change n.
+fn word_of(words: &[u8], n: usize, j: usize) -> &[u8]
+    requires { ⌜ (n < mostChanges) × (j < changeWords) ⌝ }
+    ensures { λ r. ⌜ now r ≡ wordOfChange (now (words .entry)) n j ⌝ }
 {
-    program_words::word(words, CHANGES_FROM + CHANGE_WORDS * n + k)
+    program_words::word(words, CHANGES_FROM + CHANGE_WORDS * n + j)
 }
 
-fn change_in(words: &[u8], n: usize, entries: &mut [u32; ENTRIES]) -> Verdict
+// Makes change n, if it can be made.
+fn change_in(worksheet: Worksheet, words: &[u8], n: usize, entries: &mut [u32; ENTRIES]) -> Verdict
     requires { ⌜ n < mostChanges ⌝ }
-    ensures { λ r. ⌜ r ≡ verdictIn (now (words .entry)) n (now (entries .entry)) ⌝ }
+    ensures { λ r. ⌜ r ≡ verdictIn worksheet (now (words .entry)) n (now (entries .entry)) ⌝ }
     ensures { λ r. ⌜ now (entries .exit) ≡ entriesAfter r (now (entries .entry)) ⌝ }
 {
     let title = word_of(words, n, TITLE);
     let kind = word_of(words, n, KIND);
-    change(title, kind, word_of(words, n, VALUE), entries)
+    change(worksheet, title, kind, word_of(words, n, VALUE), entries)
 }
 
 fn is_made(verdict: Verdict) -> bool
@@ -243,22 +251,13 @@ fn tell(out: &mut [u8], at: usize, several: bool, words: &[u8], n: usize, verdic
     put_verdict(out, headed, verdict, words, n)
 }
 
-// Makes change n, or tells why not.
-fn step(
-    words: &[u8],
-    n: usize,
-    several: bool,
-    entries: &mut [u32; ENTRIES],
-    said: &mut [u8],
-    so: Done,
-) -> Done
+// Counts change n as made, or tells why it was not.
+fn step(words: &[u8], n: usize, several: bool, verdict: Verdict, said: &mut [u8], so: Done) -> Done
     requires { ⌜ (so .says + sentenceMost ≤ length (now said)) × (n < mostChanges) ⌝ }
-    ensures { λ r. ⌜ now (entries .exit) ≡ entriesAfter (verdictIn (now (words .entry)) n (now (entries .entry))) (now (entries .entry)) ⌝ }
-    ensures { λ r. ⌜ r .made ≡ so .made || isMade (verdictIn (now (words .entry)) n (now (entries .entry))) ⌝ }
-    ensures { λ r. ⌜ Placed (now (said .entry)) (so .says) (told several (now (words .entry)) n (verdictIn (now (words .entry)) n (now (entries .entry))))
-        (now (said .exit)) (r .says) × (r .says ≤ so .says + sentenceMost) ⌝ }
+    ensures { λ r. ⌜ r .made ≡ so .made || isMade verdict ⌝ }
+    ensures { λ r. ⌜ Placed (now (said .entry)) (so .says) (told several (now (words .entry)) n verdict) (now (said .exit)) (r .says)
+        × (r .says ≤ so .says + sentenceMost) ⌝ }
 {
-    let verdict = change_in(words, n, entries);
     let says = tell(said, so.says, several, words, n, verdict);
     Done {
         made: so.made || is_made(verdict),
@@ -266,9 +265,15 @@ fn step(
     }
 }
 
-fn change_each(words: &[u8], changes: usize, entries: &mut [u32; ENTRIES], said: &mut [u8]) -> Done
+fn change_each(
+    worksheet: Worksheet,
+    words: &[u8],
+    changes: usize,
+    entries: &mut [u32; ENTRIES],
+    said: &mut [u8],
+) -> Done
     requires { ⌜ (changes ≤ mostChanges) × (length (now said) ≡ saidMost) ⌝ }
-    ensures { λ r. ⌜ Came (changedBy (now (words .entry)) changes (now (entries .entry)))
+    ensures { λ r. ⌜ Came (changedBy worksheet (now (words .entry)) changes (now (entries .entry)))
         (now (said .entry)) (now (entries .exit)) (now (said .exit)) r ⌝ }
 {
     let several = 1 < changes;
@@ -278,7 +283,8 @@ fn change_each(words: &[u8], changes: usize, entries: &mut [u32; ENTRIES], said:
     };
     let mut n: usize = 0;
     while n < changes {
-        so = step(words, n, several, entries, said, so);
+        let verdict = change_in(worksheet, words, n, entries);
+        so = step(words, n, several, verdict, said, so);
         n += 1;
     }
     so
@@ -286,14 +292,15 @@ fn change_each(words: &[u8], changes: usize, entries: &mut [u32; ENTRIES], said:
 
 // Makes the changes that the words ask for, one after the other, and tells of those that are not made.
 pub fn change_all(
+    worksheet: Worksheet,
     words: &[u8],
     changes: usize,
     entries: &mut [u32; ENTRIES],
     said: &mut [u8; SAID_BYTES],
 ) -> Done
     requires { ⌜ changes ≤ mostChanges ⌝ }
-    ensures { λ r. ⌜ Came (changedBy (now (words .entry)) changes (now (entries .entry)))
+    ensures { λ r. ⌜ Came (changedBy worksheet (now (words .entry)) changes (now (entries .entry)))
         (now (said .entry)) (now (entries .exit)) (now (said .exit)) r ⌝ }
 {
-    change_each(words, changes, entries, said)
+    change_each(worksheet, words, changes, entries, said)
 }

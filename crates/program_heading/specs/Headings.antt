@@ -1,5 +1,5 @@
--- The line over a printed sheet, which tells whose it is: `elm.txt: Elm Street and 3rd Avenue`, `two.icus, site 2 of 2`;
--- over a diamond's, a line for each of its junctions.
+-- The line over a printed sheet of kind k, which tells whose it is: `elm.txt: Elm Street and 3rd Avenue`, `two.icus, site 2 of 2`,
+-- `single point: spui.txt`; over a diamond's, a line for each of its junctions.
 use Prim.Native.Nat.{ℕ, _+_}
 use mathlib.Core.Bool.{cond}
 use mathlib.Core.List.{List, [], _∷_, _++_}
@@ -7,6 +7,8 @@ use lib.ListN.{length, getD, take}
 use lib.Dec.{eqb}
 use Rattle.lists.specs.Lists.{table}
 use Rattle.text.specs.Text.{ascii}
+use Rattle.layout.specs.declared.Worksheet.{Worksheet}
+use Rattle.layout.specs.declared.Worksheet.the-variants.{Junction, Point}
 use Rattle.text_phrases.specs.Phrases.{numbered}
 use Rattle.text_titles.specs.Titles.{steers, titleMost}
 use Rattle.program_outcome.specs.Outcome.{wordMost}
@@ -27,12 +29,17 @@ shownName name = shown (take wordMost name)
 unfoldable pub titled : List ℕ → List ℕ
 titled title = cond (eqb (length title) 0) [] (ascii ": " ++ take titleMost title)
 
+-- before the name: which worksheet it is, where it is not a junction's
+unfoldable pub worksheetTitle : Worksheet → List ℕ
+worksheetTitle Junction = []
+worksheetTitle Point = ascii "single point: "
+
 -- an empty line parts the heading from the page
 abbrev pub lineEnds : List ℕ
 lineEnds = ascii "\n\n"
 
-unfoldable pub textHeading : List ℕ → List ℕ → List ℕ
-textHeading name title = shownName name ++ titled title ++ lineEnds
+unfoldable pub textHeading : Worksheet → List ℕ → List ℕ → List ℕ
+textHeading k name title = worksheetTitle k ++ shownName name ++ titled title ++ lineEnds
 
 -- "two.icus, site 2": sites are counted from 1
 unfoldable pub siteTitle : List ℕ → ℕ → List ℕ
@@ -46,8 +53,8 @@ unfoldable pub feed : Spot → List ℕ
 feed spot = cond (spot .follows) (formFeed ∷ []) []
 
 -- "two.icus, site 2 of 2"
-unfoldable pub siteHeading : List ℕ → Spot → List ℕ
-siteHeading name spot = feed spot ++ siteTitle name (spot .site) ++ numbered (ascii " of ") (spot .sites) ++ lineEnds
+unfoldable pub siteHeading : Worksheet → List ℕ → Spot → List ℕ
+siteHeading k name spot = feed spot ++ worksheetTitle k ++ siteTitle name (spot .site) ++ numbered (ascii " of ") (spot .sites) ++ lineEnds
 
 -- "west: sb-ramp.txt: Main Street and I-99 SB"
 unfoldable pub sideLine : List ℕ → List ℕ → List ℕ → List ℕ

@@ -12,9 +12,13 @@ titledMost = 2 + titleMost
 abbrev pub siteTitleMost : ℕ
 siteTitleMost = wordMost + 7 + digitMost
 
--- a name, ": ", a title and the lines' ends: more than what a site's heading takes
+-- "single point: "
+abbrev pub worksheetMost : ℕ
+worksheetMost = 14
+
+-- that, a name, ": ", a title and the lines' ends: more than what a site's heading takes
 abbrev pub headingMost : ℕ
-headingMost = wordMost + titledMost + 2
+headingMost = worksheetMost + wordMost + titledMost + 2
 
 -- "east: ", on a new line
 abbrev pub sideMost : ℕ

@@ -1,17 +1,22 @@
 // The line over a printed sheet, which tells whose it is.
 ghost use mathlib.Core.Path.{_≡_};
+ghost use mathlib.Core.List.{_++_};
 ghost use Prim.Native.Nat.{_+_, _≤_, _<_};
 ghost use lib.ListN.{length};
 ghost use Rattle.text.specs.Text.{Placed};
 ghost use Rattle.program_outcome.specs.Outcome.{wordMost};
 ghost use Rattle.text_numbers.specs.Numbers.{tooLarge};
-ghost use Rattle.program_heading.specs.Headings.{shownByte, shown, shownName, titled, textHeading, siteTitle, feed, siteHeading};
-ghost use Rattle.program_heading.specs.Headings.{sideLine, diamondHeading};
-ghost use Rattle.program_heading.specs.Working.{titledMost, siteTitleMost, headingMost, sideMost, sideLineMost, diamondMost};
+ghost use Rattle.program_heading.specs.Headings.{shownByte, shown, shownName, titled, worksheetTitle, textHeading};
+ghost use Rattle.program_heading.specs.Headings.{siteTitle, feed, siteHeading, sideLine, diamondHeading};
+ghost use Rattle.program_heading.specs.Working.{titledMost, worksheetMost, siteTitleMost, headingMost, sideMost, sideLineMost, diamondMost};
+use layout::Worksheet;
 use program_outcome::WORD_BYTES;
 
-// Room for a heading: a name, ": ", a title and the lines' ends.
-pub const HEADING_BYTES: usize = WORD_BYTES + text_titles::TITLE_MOST + 4;
+// "single point: ".
+const WORKSHEET_BYTES: usize = 14;
+
+// Room for a heading: that, a name, ": ", a title and the lines' ends.
+pub const HEADING_BYTES: usize = WORKSHEET_BYTES + WORD_BYTES + text_titles::TITLE_MOST + 4;
 
 // "east: ", on a new line.
 const SIDE_BYTES: usize = 7;
@@ -69,11 +74,23 @@ fn put_titled(out: &mut [u8], at: usize, title: &[u8]) -> usize
     )
 }
 
-fn put_text_heading(out: &mut [u8], name: &[u8], title: &[u8]) -> usize
-    requires { ⌜ headingMost ≤ length (now out) ⌝ }
-    ensures { λ r. ⌜ Placed (now (out .entry)) 0 (textHeading (now (name .entry)) (now (title .entry))) (now (out .exit)) r × (r ≤ headingMost) ⌝ }
+// Puts which worksheet it is, where it is not a junction's.
+fn put_worksheet(kind: Worksheet, out: &mut [u8], at: usize) -> usize
+    requires { ⌜ at + worksheetMost ≤ length (now out) ⌝ }
+    ensures { λ r. ⌜ Placed (now (out .entry)) at (worksheetTitle kind) (now (out .exit)) r × (r ≤ at + worksheetMost) ⌝ }
 {
-    let named = put_name(out, 0, name);
+    let Worksheet::Point = kind else {
+        return at;
+    };
+    text::put_bytes(out, at, b"single point: ")
+}
+
+fn put_text_heading(kind: Worksheet, out: &mut [u8], name: &[u8], title: &[u8]) -> usize
+    requires { ⌜ headingMost ≤ length (now out) ⌝ }
+    ensures { λ r. ⌜ Placed (now (out .entry)) 0 (textHeading kind (now (name .entry)) (now (title .entry))) (now (out .exit)) r × (r ≤ headingMost) ⌝ }
+{
+    let begun = put_worksheet(kind, out, 0);
+    let named = put_name(out, begun, name);
     let told = put_titled(out, named, title);
     text::put_bytes(out, told, b"\n\n")
 }
@@ -96,12 +113,21 @@ fn put_feed(out: &mut [u8], spot: Spot) -> usize
     0
 }
 
-fn put_site_heading(out: &mut [u8], name: &[u8], spot: Spot) -> usize
-    requires { ⌜ (headingMost ≤ length (now out)) × (spot .site + 1 < tooLarge) ⌝ }
-    ensures { λ r. ⌜ Placed (now (out .entry)) 0 (siteHeading (now (name .entry)) spot) (now (out .exit)) r × (r ≤ headingMost) ⌝ }
+// Puts what stands before the name: the form feed, and past it which worksheet it is.
+fn put_begin(kind: Worksheet, out: &mut [u8], spot: Spot) -> usize
+    requires { ⌜ 1 + worksheetMost ≤ length (now out) ⌝ }
+    ensures { λ r. ⌜ Placed (now (out .entry)) 0 (feed spot ++ worksheetTitle kind) (now (out .exit)) r × (r ≤ 1 + worksheetMost) ⌝ }
 {
     let fed = put_feed(out, spot);
-    let told = put_site_title(out, fed, name, spot.site);
+    put_worksheet(kind, out, fed)
+}
+
+fn put_site_heading(kind: Worksheet, out: &mut [u8], name: &[u8], spot: Spot) -> usize
+    requires { ⌜ (headingMost ≤ length (now out)) × (spot .site + 1 < tooLarge) ⌝ }
+    ensures { λ r. ⌜ Placed (now (out .entry)) 0 (siteHeading kind (now (name .entry)) spot) (now (out .exit)) r × (r ≤ headingMost) ⌝ }
+{
+    let begun = put_begin(kind, out, spot);
+    let told = put_site_title(out, begun, name, spot.site);
     let counted = text_phrases::put_numbered(out, told, b" of ", spot.sites);
     text::put_bytes(out, counted, b"\n\n")
 }
@@ -135,10 +161,16 @@ fn put_diamond(
 }
 
 // The heading of the sheet of a text: its name, and its title if it has one.
-pub fn head_text(name: &[u8], title: &[u8], heading: &mut [u8; HEADING_BYTES]) -> usize
-    ensures { λ r. ⌜ Placed (now (heading .entry)) 0 (textHeading (now (name .entry)) (now (title .entry))) (now (heading .exit)) r × (r ≤ headingMost) ⌝ }
+pub fn head_text(
+    kind: Worksheet,
+    name: &[u8],
+    title: &[u8],
+    heading: &mut [u8; HEADING_BYTES],
+) -> usize
+    ensures { λ r. ⌜ Placed (now (heading .entry)) 0 (textHeading kind (now (name .entry)) (now (title .entry))) (now (heading .exit)) r
+        × (r ≤ headingMost) ⌝ }
 {
-    put_text_heading(heading, name, title)
+    put_text_heading(kind, heading, name, title)
 }
 
 // What a refusal is said of: a site of a study.
@@ -150,11 +182,16 @@ pub fn name_site(name: &[u8], site: u32, title: &mut [u8; HEADING_BYTES]) -> usi
 }
 
 // The heading of a site's sheet.
-pub fn head_site(name: &[u8], spot: Spot, heading: &mut [u8; HEADING_BYTES]) -> usize
+pub fn head_site(
+    kind: Worksheet,
+    name: &[u8],
+    spot: Spot,
+    heading: &mut [u8; HEADING_BYTES],
+) -> usize
     requires { ⌜ spot .site + 1 < tooLarge ⌝ }
-    ensures { λ r. ⌜ Placed (now (heading .entry)) 0 (siteHeading (now (name .entry)) spot) (now (heading .exit)) r × (r ≤ headingMost) ⌝ }
+    ensures { λ r. ⌜ Placed (now (heading .entry)) 0 (siteHeading kind (now (name .entry)) spot) (now (heading .exit)) r × (r ≤ headingMost) ⌝ }
 {
-    put_site_heading(heading, name, spot)
+    put_site_heading(kind, heading, name, spot)
 }
 
 // The heading of a diamond's sheet: of each junction the name of its text, and the title if it has one.

@@ -12,6 +12,7 @@ use Rattle.answers.specs.declared.Answer.{Answer}
 use Rattle.answers.specs.declared.Answer.the-variants.{Accepted, Refused as No}
 use Rattle.lists.specs.Lists.{over}
 use Rattle.lists.proofs.Laws.{length-over}
+use Rattle.layout.specs.declared.Worksheet.the-variants.{Junction}
 use Rattle.layout.specs.Entries.{entryCount}
 use Rattle.entries.specs.Judging.{judged}
 use Rattle.entries.proofs.Laws.{accepted-count}
@@ -35,13 +36,13 @@ never : {A : Type 0} → _≡_ {A = Bool} true false → A
 never e = absurd (let z : _≡_ {A = ℕ} 0 1 = cc in omega arith)
 
 -- a text that is well has as many entries as a junction
-well-judged : (text : List ℕ) → reading text ≡ Well → judged (parsed text .entries) ≡ Accepted
+well-judged : (text : List ℕ) → reading Junction text ≡ Well → judged (parsed text .entries) ≡ Accepted
 unfolding reading shortReading
 well-judged text e = by (ltb textMost (length text)) refl (parsed text .reader .found) refl (judged (parsed text .entries)) refl e
   where
     by : (b : Bool) → ltb textMost (length text) ≡ b → (f : Found) → parsed text .reader .found ≡ f → (a : Answer)
         → judged (parsed text .entries) ≡ a
-        → reading text ≡ Well
+        → reading Junction text ≡ Well
         → judged (parsed text .entries) ≡ Accepted
     by b long f found Accepted good is = good
     by true long f found (No why place) bad is = absurd (let y = rw long at is in let z : _≡_ {A = ℕ} 0 1 = cc in omega arith)
@@ -63,9 +64,9 @@ adds : (name : List ℕ) (input : Input) (area : List ℕ) → isNothing (textSa
     × ((all : List ℕ) (site : ℕ) → textAdds input area site all ≡ withSite all site (typedIn input area))
 unfolding textSays textAdds
 adds name Failed area nothing = never (sym nothing ∙ named-something name _)
-adds name (Read size) area nothing = by (reading (take size area)) refl nothing
+adds name (Read size) area nothing = by (reading Junction (take size area)) refl nothing
   where
-    by : (r : Reading) → reading (take size area) ≡ r → isNothing (saidBy (reading (take size area)) name (take size area)) ≡ true
+    by : (r : Reading) → reading Junction (take size area) ≡ r → isNothing (saidBy (reading Junction (take size area)) name (take size area)) ≡ true
         → (length (parsed (take size area) .entries) ≡ entryCount)
         × ((all : List ℕ) (site : ℕ) → textAdds (Read size) area site all ≡ withSite all site (parsed (take size area) .entries))
     by Well is nothing = (accepted-count (parsed (take size area) .entries) (well-judged (take size area) is), λ all site. rw is)

@@ -5,6 +5,7 @@ use mathlib.Core.List.{List, [], _∷_, _++_}
 use lib.ListN.{length, take}
 use lib.Dec.{leb}
 use Rattle.lists.specs.Lists.{over}
+use Rattle.layout.specs.declared.Worksheet.the-variants.{Junction}
 use Rattle.layout.specs.Entries.{entryCount}
 use Rattle.study.specs.Study.{fileOf}
 use Rattle.text_scan.specs.Scanning.{parsed}
@@ -30,12 +31,12 @@ withSite all site entries =
 
 -- what is said of the file that was read into an area, and the entries of all sites with its text's, if that is well
 unfoldable pub textSays : Input → List ℕ → List ℕ → List ℕ
-textSays (Read size) name area = saidBy (reading (take size area)) name (take size area)
+textSays (Read size) name area = saidBy (reading Junction (take size area)) name (take size area)
 textSays Failed name area = remarked name Unread
 
 unfoldable pub textAdds : Input → List ℕ → ℕ → List ℕ → List ℕ
 textAdds (Read size) area site all =
-    keptUnlessRead (reading (take size area)) (withSite all site (parsed (take size area) .entries)) all
+    keptUnlessRead (reading Junction (take size area)) (withSite all site (parsed (take size area) .entries)) all
 textAdds Failed area site all = all
 
 -- the study file of the first sites

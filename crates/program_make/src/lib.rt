@@ -3,12 +3,14 @@ ghost use mathlib.Core.Path.{_≡_};
 ghost use Prim.Native.Nat.{_*_, _≤_};
 ghost use lib.ListN.{length};
 ghost use Rattle.text.specs.Text.{Placed};
+ghost use Rattle.layout.specs.declared.Worksheet.the-variants.{Junction};
 ghost use Rattle.layout.specs.Entries.{entryCount};
 ghost use Rattle.study.specs.Study.{siteLimit, fileOf};
 ghost use Rattle.text_reader.specs.Reader.{reading, keptUnlessRead};
 ghost use Rattle.text_scan.specs.Scanning.{parsed};
 ghost use Rattle.program_make.specs.Make.{saidBy, withSite, textSays, textAdds, studyOf};
 use layout::ENTRIES;
+use layout::Worksheet;
 use program_outcome::AREA_BYTES;
 use program_outcome::Input;
 use program_outcome::Remark;
@@ -49,12 +51,13 @@ fn add_text(
     all: &mut [u32; ALL_ENTRIES],
     said: &mut [u8; SAID_BYTES],
 ) -> usize
-    ensures { λ r. ⌜ Placed (now (said .entry)) 0 (saidBy (reading (now (text .entry))) (now (name .entry)) (now (text .entry))) (now (said .exit)) r ⌝ }
+    ensures { λ r. ⌜ Placed (now (said .entry)) 0 (saidBy (reading Junction (now (text .entry))) (now (name .entry)) (now (text .entry)))
+        (now (said .exit)) r ⌝ }
     ensures { λ r. ⌜ now (all .exit)
-        ≡ keptUnlessRead (reading (now (text .entry))) (withSite (now (all .entry)) site (parsed (now (text .entry)) .entries)) (now (all .entry)) ⌝ }
+        ≡ keptUnlessRead (reading Junction (now (text .entry))) (withSite (now (all .entry)) site (parsed (now (text .entry)) .entries)) (now (all .entry)) ⌝ }
 {
     let mut entries = [0u32; ENTRIES];
-    let reading = text_reader::read(text, &mut entries);
+    let reading = text_reader::read(Worksheet::Junction, text, &mut entries);
     match reading {
         Reading::Read => {
             put_entries(all, site, &entries);

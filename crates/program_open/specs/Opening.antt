@@ -6,6 +6,7 @@ use lib.ListN.{take, replicate}
 use lib.Dec.{eqb}
 use Rattle.answers.specs.declared.Answer.{Answer}
 use Rattle.answers.specs.declared.Answer.the-variants.{Accepted, Refused}
+use Rattle.layout.specs.declared.Worksheet.the-variants.{Junction}
 use Rattle.layout.specs.Sheet.{sheetCount}
 use Rattle.text.specs.Text.{ascii}
 use Rattle.text_refusals.specs.Refusals.{answerText}
@@ -75,7 +76,7 @@ openSays source words area = officeSays words or-else sourceSays source (wordAt 
 
 -- the sheet that is lent for the site that a call names
 abbrev pub blankSheet : List ℕ
-blankSheet = replicate sheetCount 0
+blankSheet = replicate (sheetCount Junction) 0
 
 -- how it goes on ---------------------------------------------------------------------------------------------------------
 

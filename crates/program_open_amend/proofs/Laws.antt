@@ -7,6 +7,7 @@ use lib.ListN.{length, set, length-set}
 use Rattle.answers.specs.Answers.{left-by}
 use Rattle.answers.specs.declared.Answer.the-variants.{Accepted}
 use Rattle.layout.specs.Open.{blocksCount, blockPlace}
+use Rattle.layout.specs.declared.Worksheet.the-variants.{Junction}
 use Rattle.layout.specs.Sheet.{sheetCount}
 use Rattle.entries.specs.Judging.{judged}
 use Rattle.procedure.specs.Sheet.{sheet}
@@ -33,10 +34,10 @@ module _ (S : Study) (office s i v : ℕ) (accepted : amendSiteAnswer S office s
   block : blockAt (amendedBlocks S office s i v) s ≡ set (blockAt (S .blocks) s) i v
   block = rw written (amended-block (S .blocks) s i v (known .entry))
 
-  read-before : (d : List ℕ) → length d ≡ sheetCount → readAnswer S office s d ≡ judged (blockAt (S .blocks) s)
+  read-before : (d : List ℕ) → length d ≡ sheetCount Junction → readAnswer S office s d ≡ judged (blockAt (S .blocks) s)
   read-before d size = read-judged S office s d (known .study) (known .own) size
 
-  read-after : (d : List ℕ) → length d ≡ sheetCount
+  read-after : (d : List ℕ) → length d ≡ sheetCount Junction
       → readSheet (study (S .owners) (amendedBlocks S office s i v)) office s d ≡ sheet (set (blockAt (S .blocks) s) i v)
   unfolding readSheet
   read-after d size =
@@ -51,9 +52,9 @@ module _ (S : Study) (office s i v : ℕ) (accepted : amendSiteAnswer S office s
 
   -- so what is listed is what the amendment changes on the sheet
   pub listed : {blocks : List ℕ} → blocks ≡ amendedBlocks S office s i v
-      → changeText (left-by (readAnswer S office s blankSheet) (readSheet S office s blankSheet) [])
+      → changeText Junction (left-by (readAnswer S office s blankSheet) (readSheet S office s blankSheet) [])
       (readSheet (study (S .owners) blocks) office s blankSheet)
-      ≡ changeText (sheetBefore (blockAt (S .blocks) s)) (sheet (set (blockAt (S .blocks) s) i v))
+      ≡ changeText Junction (sheetBefore Junction (blockAt (S .blocks) s)) (sheet (set (blockAt (S .blocks) s) i v))
   unfolding readSheet
   listed is =
       let e = blockAt (S .blocks) s in

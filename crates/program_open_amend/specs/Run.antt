@@ -3,6 +3,7 @@
 use Prim.Native.Nat.{ℕ}
 use mathlib.Core.List.{List, []}
 use lib.ListN.{set}
+use Rattle.layout.specs.declared.Worksheet.the-variants.{Junction}
 use Rattle.procedure.specs.Sheet.{sheet}
 use Rattle.page.specs.Worksheet.{changeText}
 use Rattle.open_rules.specs.Open.{Study, blockAt, amendSiteAnswer, amendedBlocks}
@@ -30,7 +31,7 @@ abbrev pub amendGives : Study → ℕ → ℕ → ℕ → ℕ → Outcome
 amendGives S office s i v =
     let e = blockAt (S .blocks) s in
     record {
-      prints = changeText (sheetBefore e) (sheet (set e i v));
+      prints = changeText Junction (sheetBefore Junction e) (sheet (set e i v));
       writes = openFile (S .owners) (amendedBlocks S office s i v);
       says = [];
     }

@@ -2,6 +2,7 @@
 use Prim.Native.Nat.{ℕ}
 use mathlib.Core.List.{List, []}
 use Rattle.answers.specs.Answers.{left-by}
+use Rattle.layout.specs.declared.Worksheet.the-variants.{Junction}
 use Rattle.page.specs.Worksheet.{changeText}
 use Rattle.open_rules.specs.Open.{Study, readAnswer, readSheet}
 use Rattle.program_open.specs.Words.{officeIn, siteIn}
@@ -14,4 +15,4 @@ sheetRead S words =
 
 -- what is listed of that sheet and the one afterwards
 abbrev pub listing : Study → Study → List ℕ → List ℕ
-listing before after words = changeText (sheetRead before words) (readSheet after (officeIn words) (siteIn words) blankSheet)
+listing before after words = changeText Junction (sheetRead before words) (readSheet after (officeIn words) (siteIn words) blankSheet)

@@ -1,5 +1,9 @@
 // What `icuoffice STUDY OFFICE amend SITE NAME ENTRY VALUE` prints, writes and says: one call, between reading and writing.
 ghost use mathlib.Core.Path.{_≡_};
+ghost use mathlib.Core.List.{[]};
+ghost use Rattle.answers.specs.Answers.{left-by};
+ghost use Rattle.layout.specs.declared.Worksheet.the-variants.{Junction};
+ghost use Rattle.page.specs.Worksheet.{changeText};
 ghost use Rattle.text.specs.Text.{Placed};
 ghost use Rattle.program_outcome.specs.Outcome.{Left};
 ghost use Rattle.program_open.specs.Working.{held};
@@ -7,6 +11,7 @@ ghost use Rattle.program_open_amend.specs.Run.{changeIn, wrongSays, amen
 ghost use Rattle.program_open_amend.specs.Working.{listing};
 use answers::Answer;
 use layout::CELLS;
+use layout::Worksheet;
 use open_file::OPEN_BYTES;
 use program_changes::Asked;
 use program_changes::Wrong;
@@ -46,6 +51,19 @@ fn say_wrong(wrong: Wrong, words: &[u8], said: &mut [u8; SAID_BYTES]) -> usize
     program_changes::say_wrong(wrong, name, entry, program_words::word(words, VALUE), said)
 }
 
+// Lists what changed since a junction's sheet that was filled, or not.
+fn list_changes(
+    filled: Answer,
+    before: &[u32; CELLS],
+    after: &[u32; CELLS],
+    printed: &mut [u8; PRINTED_BYTES],
+) -> usize
+    ensures { λ r. ⌜ Placed (now (printed .entry)) 0
+        (changeText Junction (left-by filled (now (before .entry)) []) (now (after .entry))) (now (printed .exit)) r ⌝ }
+{
+    program_amend::list_changes(Worksheet::Junction, filled, before, after, printed)
+}
+
 // Prints what differs between the sheets of a site in two studies.
 fn print_changes(
     words: &[u8],
@@ -59,7 +77,7 @@ fn print_changes(
     let mut new = [0u32; CELLS];
     let filled = program_open::read_site(words, before, &mut old);
     program_open::read_site(words, after, &mut new);
-    program_amend::list_changes(filled, &old, &new, printed)
+    list_changes(filled, &old, &new, printed)
 }
 
 // Changes an entry of the office's site in its block.

@@ -6,6 +6,7 @@ use lib.ListN.{take}
 use Rattle.answers.specs.declared.Answer.the-variants.{Accepted}
 use Rattle.layout.specs.Entries.{entryCount}
 use Rattle.layout.specs.Open.{placeCount}
+use Rattle.layout.specs.declared.Worksheet.the-variants.{Junction}
 use Rattle.entries.proofs.Laws.{accepted-count}
 use Rattle.sheet_cells.proofs.Cells.{sheet-entries}
 use Rattle.open_rules.specs.Open.{Study, blockAt, readAnswer, readSheet}
@@ -19,4 +20,4 @@ module _ (S : Study) (office s : ℕ) (d : List ℕ) (accepted : readAnswer S of
 
   pub front-read : take entryCount (readSheet S office s d) ≡ blockAt (S .blocks) s
   unfolding readSheet
-  front-read = rw accepted (sheet-entries (blockAt (S .blocks) s) (accepted-count _ (reads S office s d accepted .fine)))
+  front-read = rw accepted (sheet-entries Junction (blockAt (S .blocks) s) (accepted-count _ (reads S office s d accepted .fine)))

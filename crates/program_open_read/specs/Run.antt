@@ -4,6 +4,7 @@ use Prim.Native.Nat.{ℕ}
 use mathlib.Core.Bool.{false}
 use mathlib.Core.List.{List}
 use Rattle.layout.specs.Open.{placeCount}
+use Rattle.layout.specs.declared.Worksheet.the-variants.{Junction}
 use Rattle.open_rules.specs.Open.{Study, blockAt, readAnswer}
 use Rattle.program_words.specs.Words.{wordAt}
 use Rattle.program_outcome.specs.declared.Input.{Input}
@@ -21,7 +22,7 @@ spotOf site = record { site = site; sites = placeCount; follows = false }
 unfoldable pub readSite : List ℕ → Study → Outcome
 readSite words S =
     ifAccepted (readAnswer S (officeIn words) (siteIn words) blankSheet) (wordAt words siteWord)
-    (sitePage (wordAt words studyWord) (spotOf (siteIn words)) (blockAt (S .blocks) (siteIn words)))
+    (sitePage Junction (wordAt words studyWord) (spotOf (siteIn words)) (blockAt (S .blocks) (siteIn words)))
 
 -- what is said of the office's word or of the study; or else the site is read
 unfoldable pub openReadRun : Input → List ℕ → List ℕ → Outcome

@@ -4,6 +4,7 @@ ghost use Prim.Native.Nat.{_≤_, _<_};
 ghost use lib.ListN.{length, take};
 ghost use Rattle.layout.specs.Entries.{entryCount};
 ghost use Rattle.layout.specs.Open.{placeCount};
+ghost use Rattle.layout.specs.declared.Worksheet.the-variants.{Junction};
 ghost use Rattle.program_outcome.specs.Outcome.{Left};
 ghost use Rattle.program_page.specs.Pages.{sitePage};
 ghost use Rattle.program_words.specs.Words.{wordAt};
@@ -13,6 +14,7 @@ ghost use Rattle.program_open_read.specs.Run.{spotOf, readSite, openRead
 use answers::Answer;
 use layout::CELLS;
 use layout::ENTRIES;
+use layout::Worksheet;
 use program_heading::Spot;
 use program_open::Opened;
 use program_open::SITE;
@@ -41,7 +43,8 @@ fn print_sheet(
     said: &mut [u8; SAID_BYTES],
 ) -> Lengths
     requires { ⌜ siteIn (now words) < placeCount ⌝ }
-    ensures { λ r. ⌜ Left (sitePage (wordAt (now (words .entry)) studyWord) (spotOf (siteIn (now (words .entry)))) (take entryCount (now (sheet .entry))))
+    ensures { λ r. ⌜ Left
+        (sitePage Junction (wordAt (now (words .entry)) studyWord) (spotOf (siteIn (now (words .entry)))) (take entryCount (now (sheet .entry))))
         (now (printed .entry)) (now (said .entry)) (now (printed .exit)) (now (said .exit)) r ⌝ }
 {
     let mut entries = [0u32; ENTRIES];
@@ -52,6 +55,7 @@ fn print_sheet(
         follows: false,
     };
     program_page::print_site(
+        Worksheet::Junction,
         program_words::word(words, STUDY),
         spot,
         &entries,

@@ -5,6 +5,7 @@ ghost use lib.ListN.{length, take};
 ghost use Rattle.text.specs.Text.{Placed};
 ghost use Rattle.program_outcome.specs.Outcome.{isEither, opening, named, remarkText, remarked};
 ghost use Rattle.program_outcome.specs.Working.{onlySaid, onlyPrinted, openingMost, remarkMost};
+use layout::Worksheet;
 
 // What reading a file into an area came to: how many bytes were read.
 pub enum Input {
@@ -27,8 +28,10 @@ pub enum Remark {
     NoOutput,
 }
 
-// How a program was called: how many arguments it has, its own name among them, and what reading its file came to.
+// How a program was called: which worksheet its first word asks for; how many arguments it has past that word, its own name among them;
+// and what reading its file came to.
 pub struct Call {
+    pub worksheet: Worksheet,
     pub arguments: usize,
     pub input: Input,
 }

@@ -8,6 +8,7 @@ use lib.Dec.{ltb}
 use Rattle.lists.specs.Lists.{table}
 use Rattle.answers.specs.declared.Answer.{Answer}
 use Rattle.answers.specs.declared.Answer.the-variants.{Accepted, Refused as No}
+use Rattle.layout.specs.declared.Worksheet.the-variants.{Junction}
 use Rattle.layout.specs.Diamond.{storageCount}
 use Rattle.kinds.specs.declared.Kind.{Kind}
 use Rattle.kinds.specs.declared.Kind.the-variants.{Storage, TravelTime}
@@ -58,7 +59,7 @@ textSays (Refused why at place) name text = named name (readingText text (Refuse
 -- bytes that are a study are no text
 abbrev pub bytesSay : Answer → List ℕ → List ℕ → List ℕ
 bytesSay Accepted name text = remarked name WantsText
-bytesSay (No why place) name text = textSays (reading text) name text
+bytesSay (No why place) name text = textSays (reading Junction text) name text
 
 unfoldable pub fileSays : Input → List ℕ → List ℕ → List ℕ
 fileSays (Got size) name area = bytesSay (judgement (take size area)) name (take size area)

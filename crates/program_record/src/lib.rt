@@ -3,6 +3,7 @@ ghost use mathlib.Core.Path.{_≡_};
 ghost use Prim.Native.Nat.{_+_, _≤_, _<_};
 ghost use lib.ListN.{set, length};
 ghost use Rattle.lists.specs.Lists.{over};
+ghost use Rattle.layout.specs.declared.Worksheet.the-variants.{Junction};
 ghost use Rattle.layout.specs.Entries.{entryCount};
 ghost use Rattle.layout.specs.Diamond.{storagesFrom, recordCount};
 ghost use Rattle.text.specs.Text.{Placed};
@@ -18,6 +19,7 @@ use kinds::Kind;
 use layout::ENTRIES;
 use layout::RECORD;
 use layout::STORAGES;
+use layout::Worksheet;
 use program_outcome::AREA_BYTES;
 use program_outcome::Input;
 use program_outcome::Remark;
@@ -61,10 +63,10 @@ fn take_text(
     entries: &mut [u32; ENTRIES],
     said: &mut [u8; SAID_BYTES],
 ) -> usize
-    ensures { λ r. ⌜ Made (textSays (reading (now (text .entry))) (now (name .entry)) (now (text .entry))) (now (said .entry)) (now (said .exit))
+    ensures { λ r. ⌜ Made (textSays (reading Junction (now (text .entry))) (now (name .entry)) (now (text .entry))) (now (said .entry)) (now (said .exit))
         (parsed (now (text .entry)) .entries) (now (entries .exit)) r ⌝ }
 {
-    let reading = text_reader::read(text, entries);
+    let reading = text_reader::read(Worksheet::Junction, text, entries);
     match reading {
         Reading::Read => 0,
         Reading::Misread(_, _) => program_refusals::say_reading(name, text, reading, said),

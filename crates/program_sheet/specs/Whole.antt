@@ -2,7 +2,6 @@
 use Prim.Native.Nat.{ℕ, zero, suc}
 use mathlib.Core.List.{List, _++_}
 use Rattle.program_outcome.specs.declared.Call.{Call}
-use Rattle.program_outcome.specs.declared.Input.{Input}
 use Rattle.program_outcome.specs.Outcome.{Outcome}
 use Rattle.program_page.specs.Pages.{nothing}
 use Rattle.program_sheet.specs.Run.{sheetRun, pagesOf, pageAt}
@@ -13,9 +12,9 @@ together one other =
     record { prints = one .prints ++ other .prints; writes = one .writes ++ other .writes; says = one .says ++ other .says }
 
 -- the first n pages
-unfoldable pub pagesUpTo : Input → List ℕ → List ℕ → ℕ → Outcome
-pagesUpTo input words area zero = nothing
-pagesUpTo input words area (suc n) = together (pagesUpTo input words area n) (pageAt input words area n)
+unfoldable pub pagesUpTo : Call → List ℕ → List ℕ → ℕ → Outcome
+pagesUpTo call words area zero = nothing
+pagesUpTo call words area (suc n) = together (pagesUpTo call words area n) (pageAt call words area n)
 
 abbrev pub sheetWhole : Call → List ℕ → List ℕ → Outcome
-sheetWhole call words area = together (sheetRun call words area) (pagesUpTo (call .input) words area (pagesOf call words area))
+sheetWhole call words area = together (sheetRun call words area) (pagesUpTo call words area (pagesOf call words area))

@@ -10,6 +10,7 @@ ghost use Rattle.program_sheet.specs.Run.{sheetUse, sheetTakes, sheetRun
 ghost use Rattle.program_sheet.specs.Working.{useMost};
 use answers::Answer;
 use layout::ENTRIES;
+use layout::Worksheet;
 use program_heading::Spot;
 use program_outcome::AREA_BYTES;
 use program_outcome::Call;
@@ -35,18 +36,19 @@ const NAME: usize = 0;
 const SITE: usize = 1;
 
 fn read_text(
+    kind: Worksheet,
     name: &[u8],
     text: &[u8],
     printed: &mut [u8; PRINTED_BYTES],
     said: &mut [u8; SAID_BYTES],
 ) -> Lengths
-    ensures { λ r. ⌜ Left (readAs (reading (now (text .entry))) (now (name .entry)) (now (text .entry)))
+    ensures { λ r. ⌜ Left (readAs (reading kind (now (text .entry))) kind (now (name .entry)) (now (text .entry)))
         (now (printed .entry)) (now (said .entry)) (now (printed .exit)) (now (said .exit)) r ⌝ }
 {
     let mut entries = [0u32; ENTRIES];
-    let reading = text_reader::read(text, &mut entries);
+    let reading = text_reader::read(kind, text, &mut entries);
     match reading {
-        Reading::Read => program_page::print_text(name, text, &entries, printed, said),
+        Reading::Read => program_page::print_text(kind, name, text, &entries, printed, said),
         Reading::Misread(_, _) => {
             program_outcome::only_said(program_refusals::say_reading(name, text, reading, said))
         }
@@ -57,29 +59,31 @@ fn read_text(
 }
 
 fn sheet_of_text(
+    kind: Worksheet,
     name: &[u8],
     text: &[u8],
     printed: &mut [u8; PRINTED_BYTES],
     said: &mut [u8; SAID_BYTES],
 ) -> Lengths
-    ensures { λ r. ⌜ Left (sheetOfText (now (name .entry)) (now (text .entry)))
+    ensures { λ r. ⌜ Left (sheetOfText kind (now (name .entry)) (now (text .entry)))
         (now (printed .entry)) (now (said .entry)) (now (printed .exit)) (now (said .exit)) r ⌝ }
 {
     let answer = study::check(text);
     if let Answer::Accepted = answer {
         return program_outcome::only_said(program_outcome::say(name, Remark::IsStudy, said));
     }
-    read_text(name, text, printed, said)
+    read_text(kind, name, text, printed, said)
 }
 
 fn sheet_of_site(
+    kind: Worksheet,
     name: &[u8],
     word: &[u8],
     file: &[u8],
     printed: &mut [u8; PRINTED_BYTES],
     said: &mut [u8; SAID_BYTES],
 ) -> Lengths
-    ensures { λ r. ⌜ Left (sheetOfSite (now (name .entry)) (now (word .entry)) (now (file .entry)))
+    ensures { λ r. ⌜ Left (sheetOfSite kind (now (name .entry)) (now (word .entry)) (now (file .entry)))
         (now (printed .entry)) (now (said .entry)) (now (printed .exit)) (now (said .exit)) r ⌝ }
 {
     let mut entries = [0u32; ENTRIES];
@@ -93,7 +97,7 @@ fn sheet_of_site(
                 sites,
                 follows,
             };
-            program_page::print_alone(name, spot, &entries, printed, said)
+            program_page::print_alone(kind, name, spot, &entries, printed, said)
         }
         Sought::Missing(_) => {
             program_outcome::only_said(program_site::say_site(sought, name, word, said))
@@ -137,30 +141,32 @@ fn put_use(out: &mut [u8]) -> usize
         b"usage: icusheet TEXT         prints the worksheet of the junction in a text\n       \
         icusheet STUDY SITE   prints that of a site of a study file, sites from 1\n       \
         icusheet STUDY all    prints those of all its sites, a page each\n       \
+        icusheet --point ..   with any of these: prints that of a single point interchange\n       \
         icusheet --help       prints this, and --version the version\n",
     )
 }
 
 // By the number of arguments, the file is a text or a study.
 fn sheet_of_file(
-    count: usize,
+    call: Call,
     words: &[u8],
     file: &[u8],
     printed: &mut [u8; PRINTED_BYTES],
     said: &mut [u8; SAID_BYTES],
 ) -> Lengths
-    ensures { λ r. ⌜ Left (sheetOfFile count (now (words .entry)) (now (file .entry)))
+    ensures { λ r. ⌜ Left (sheetOfFile call (now (words .entry)) (now (file .entry)))
         (now (printed .entry)) (now (said .entry)) (now (printed .exit)) (now (said .exit)) r ⌝ }
 {
+    let kind = call.worksheet;
     let name = program_words::word(words, NAME);
-    if count == OF_TEXT {
-        return sheet_of_text(name, file, printed, said);
+    if call.arguments == OF_TEXT {
+        return sheet_of_text(kind, name, file, printed, said);
     }
     let word = program_words::word(words, SITE);
     if program_wish::is_same(word, b"all") {
         return before_all(name, word, file, printed, said);
     }
-    sheet_of_site(name, word, file, printed, said)
+    sheet_of_site(kind, name, word, file, printed, said)
 }
 
 fn work(
@@ -173,8 +179,7 @@ fn work(
     ensures { λ r. ⌜ Left (workRun call (now (words .entry)) (now (area .entry)))
         (now (printed .entry)) (now (said .entry)) (now (printed .exit)) (now (said .exit)) r ⌝ }
 {
-    let count = call.arguments;
-    if !takes(count) {
+    if !takes(call.arguments) {
         return program_outcome::only_said(put_use(said));
     }
     let input = call.input;
@@ -183,7 +188,7 @@ fn work(
         return program_outcome::only_said(program_outcome::say(name, Remark::Unread, said));
     };
     let file = program_outcome::front(area, size);
-    sheet_of_file(count, words, file, printed, said)
+    sheet_of_file(call, words, file, printed, said)
 }
 
 // What `icusheet` gives once; its file was read into the area.
@@ -222,13 +227,14 @@ pub fn pages(call: Call, words: &[u8], area: &[u8; AREA_BYTES]) -> u32
 }
 
 fn page_in(
+    kind: Worksheet,
     name: &[u8],
     file: &[u8],
     site: u32,
     printed: &mut [u8; PRINTED_BYTES],
     said: &mut [u8; SAID_BYTES],
 ) -> Lengths
-    ensures { λ r. ⌜ Left (pageIn (now (name .entry)) (now (file .entry)) site)
+    ensures { λ r. ⌜ Left (pageIn kind (now (name .entry)) (now (file .entry)) site)
         (now (printed .entry)) (now (said .entry)) (now (printed .exit)) (now (said .exit)) r ⌝ }
 {
     let sites = study::count(file);
@@ -243,26 +249,29 @@ fn page_in(
         sites,
         follows,
     };
-    program_page::print_site(name, spot, &entries, printed, said)
+    program_page::print_site(kind, name, spot, &entries, printed, said)
 }
 
 // What is printed and said for a site, from 0, among the pages of all.
 pub fn page(
-    input: Input,
+    call: Call,
     words: &[u8],
     area: &[u8; AREA_BYTES],
     site: u32,
     printed: &mut [u8; PRINTED_BYTES],
     said: &mut [u8; SAID_BYTES],
 ) -> Lengths
-    ensures { λ r. ⌜ Left (pageAt input (now (words .entry)) (now (area .entry)) site)
+    ensures { λ r. ⌜ Left (pageAt call (now (words .entry)) (now (area .entry)) site)
         (now (printed .entry)) (now (said .entry)) (now (printed .exit)) (now (said .exit)) r ⌝ }
 {
+    let input = call.input;
     let Input::Read(size) = input else {
         return program_outcome::only_printed(0);
     };
+    let kind = call.worksheet;
     let name = program_words::word(words, NAME);
     page_in(
+        kind,
         name,
         program_outcome::front(area, size),
         site,

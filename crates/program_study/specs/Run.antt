@@ -1,9 +1,10 @@
--- What `icustudy` is asked to do, and what `icustudy show` gives: a site of a study as text, or what is said.
+-- What `icustudy` is asked to do; what `icustudy show` gives: a site of a study as text, or what is said; and `icustudy point`.
 use Prim.Native.Nat.{ℕ, _-_, min}
 use mathlib.Core.Bool.{cond}
 use mathlib.Core.List.{List, [], _++_}
 use lib.Dec.{eqb, leb, ltb}
 use Rattle.text.specs.Text.{ascii}
+use Rattle.point_start.specs.Start.{startEntries}
 use Rattle.text_writer.specs.Writer.{junctionText}
 use Rattle.study.specs.Study.{siteLimit, siteEntries}
 use Rattle.program_words.specs.Words.{wordAt}
@@ -14,7 +15,7 @@ use Rattle.program_outcome.specs.declared.Input.{Input}
 use Rattle.program_outcome.specs.Outcome.{Outcome, printing, saying, withFile}
 use Rattle.program_site.specs.Site.{sought, withSite}
 use Rattle.program_study.specs.declared.Job.{Job}
-use Rattle.program_study.specs.declared.Job.the-variants.{Make, Show, Convert, TooMany, Use, Help, Version}
+use Rattle.program_study.specs.declared.Job.the-variants.{Make, Show, Convert, Point, TooMany, Use, Help, Version}
 
 -- the arguments before the first text: the program's name, the job's, and the study's
 abbrev pub beforeTexts : ℕ
@@ -24,15 +25,23 @@ beforeTexts = 3
 abbrev pub textsIn : ℕ → ℕ
 textsIn count = min (count - beforeTexts) siteLimit
 
--- a study, and a site to show or a file to write
-abbrev pub ofTwo : ℕ → Job → Job
-ofTwo count job = cond (eqb count 4) job Use
+-- the program's name, the job's, and beside them nothing; or a study, and a site to show or a file to write
+abbrev pub ofNone : ℕ
+ofNone = 2
+
+abbrev pub ofTwo : ℕ
+ofTwo = 4
+
+-- a job that is called with as many arguments as it takes
+abbrev pub jobWith : ℕ → ℕ → Job → Job
+jobWith count takes job = cond (eqb count takes) job Use
 
 -- by the number of arguments, the program's name among them, and the job's name
 unfoldable pub workOf : ℕ → List ℕ → Job
 workOf count job =
     cond (same job (ascii "make")) (cond (leb count beforeTexts) Use (cond (ltb siteLimit (count - beforeTexts)) TooMany Make))
-    (cond (same job (ascii "show")) (ofTwo count Show) (cond (same job (ascii "convert")) (ofTwo count Convert) Use))
+    (cond (same job (ascii "show")) (jobWith count ofTwo Show) (cond (same job (ascii "convert")) (jobWith count ofTwo Convert)
+    (cond (same job (ascii "point")) (jobWith count ofNone Point) Use)))
 
 abbrev pub jobFor : Wish → ℕ → List ℕ → Job
 jobFor ForHelp count job = Help
@@ -47,12 +56,14 @@ studyUse =
     ascii "usage: icustudy make STUDY TEXT ...   makes a study file of the junctions in the texts\n"
     ++ ascii "       icustudy show STUDY SITE       prints a site of a study file as text, sites from 1\n"
     ++ ascii "       icustudy convert STUDY NEW     writes a study of before (ICUS) as one of today (ICUT)\n"
+    ++ ascii "       icustudy point                 prints a text to begin a single point interchange with\n"
 
 -- what is given at once, where nothing is to be made, shown or converted
 unfoldable pub toldOf : Job → Outcome
 toldOf Make = saying []
 toldOf Show = saying []
 toldOf Convert = saying []
+toldOf Point = printing (junctionText startEntries)
 toldOf TooMany = saying (ascii "a study holds at most 165 junctions\n")
 toldOf Use = saying studyUse
 toldOf Help = printing studyUse

@@ -2,4 +2,4 @@
 use Prim.Native.Nat.{ℕ}
 
 abbrev pub useMost : ℕ
-useMost = 320
+useMost = 384

@@ -1,10 +1,12 @@
-// What `icustudy` is asked to do, and what `icustudy show` prints and says: one call, between reading and writing.
+// What `icustudy` is asked to do, and what `icustudy show` and `icustudy point` print and say: one call, between reading and writing.
 ghost use mathlib.Core.Path.{_≡_};
 ghost use Prim.Native.Nat.{_≤_};
 ghost use lib.ListN.{length};
+ghost use Rattle.point_start.specs.Start.{startEntries};
 ghost use Rattle.text.specs.Text.{Placed};
+ghost use Rattle.text_writer.specs.Writer.{junctionText};
 ghost use Rattle.program_outcome.specs.Outcome.{Left};
-ghost use Rattle.program_study.specs.Run.{textsIn, ofTwo, workOf, jobOf, studyUse, toldOf, showAt, showRun};
+ghost use Rattle.program_study.specs.Run.{textsIn, jobWith, workOf, jobOf, studyUse, toldOf, showAt, showRun};
 ghost use Rattle.program_study.specs.Working.{useMost};
 use layout::ENTRIES;
 use program_outcome::AREA_BYTES;
@@ -22,7 +24,9 @@ pub const PRINTED_BYTES: usize = TEXT_BYTES;
 // The arguments before the first text: the program's name, the job's, and the study's.
 pub const BEFORE_TEXTS: usize = 3;
 
-// A study and a site, or a file to write, beside the program's name and the job's.
+// The program's name, the job's, and beside them nothing; or a study, and a site or a file to write.
+const OF_NONE: usize = 2;
+
 const OF_TWO: usize = 4;
 
 // The arguments, among the words.
@@ -36,17 +40,19 @@ pub enum Job {
     Make,
     Show,
     Convert,
+    // the text to begin a single point interchange with
+    Point,
     TooMany,
     Use,
     Help,
     Version,
 }
 
-// A job that takes two arguments, if there are two.
-fn of_two(count: usize, job: Job) -> Job
-    ensures { λ r. ⌜ r ≡ ofTwo count job ⌝ }
+// A job, if there are as many arguments as it takes.
+fn job_with(count: usize, takes: usize, job: Job) -> Job
+    ensures { λ r. ⌜ r ≡ jobWith count takes job ⌝ }
 {
-    if count == OF_TWO {
+    if count == takes {
         return job;
     }
     Job::Use
@@ -66,10 +72,13 @@ fn work_of(count: usize, word: &[u8]) -> Job
         return Job::Make;
     }
     if program_wish::is_same(word, b"show") {
-        return of_two(count, Job::Show);
+        return job_with(count, OF_TWO, Job::Show);
     }
     if program_wish::is_same(word, b"convert") {
-        return of_two(count, Job::Convert);
+        return job_with(count, OF_TWO, Job::Convert);
+    }
+    if program_wish::is_same(word, b"point") {
+        return job_with(count, OF_NONE, Job::Point);
     }
     Job::Use
 }
@@ -108,8 +117,25 @@ fn put_use(out: &mut [u8]) -> usize
         0,
         b"usage: icustudy make STUDY TEXT ...   makes a study file of the junctions in the texts\n       \
         icustudy show STUDY SITE       prints a site of a study file as text, sites from 1\n       \
-        icustudy convert STUDY NEW     writes a study of before (ICUS) as one of today (ICUT)\n",
+        icustudy convert STUDY NEW     writes a study of before (ICUS) as one of today (ICUT)\n       \
+        icustudy point                 prints a text to begin a single point interchange with\n",
     )
+}
+
+// Puts a junction's text to the front.
+fn put_text(entries: &[u32; ENTRIES], out: &mut [u8; PRINTED_BYTES]) -> usize
+    ensures { λ r. ⌜ Placed (now (out .entry)) 0 (junctionText (now (entries .entry))) (now (out .exit)) r ⌝ }
+{
+    text_writer::write(entries, out)
+}
+
+// Puts the text that a single point interchange begins with.
+fn put_point(out: &mut [u8; PRINTED_BYTES]) -> usize
+    ensures { λ r. ⌜ Placed (now (out .entry)) 0 (junctionText startEntries) (now (out .exit)) r ⌝ }
+{
+    let mut entries = [0u32; ENTRIES];
+    point_start::start(&mut entries);
+    put_text(&entries, out)
 }
 
 // What is given at once, where nothing is to be made, shown or converted: what is wrong, or what is asked for.
@@ -126,22 +152,9 @@ pub fn tell(job: Job, printed: &mut [u8; PRINTED_BYTES], said: &mut [u8; SAID_BY
             b"a study holds at most 165 junctions\n",
         )),
         Job::Use => program_outcome::only_said(put_use(said)),
-        Job::Help => {
-            let prints = put_use(printed);
-            Lengths {
-                prints,
-                writes: 0,
-                says: 0,
-            }
-        }
-        Job::Version => {
-            let prints = program_wish::put_version(printed);
-            Lengths {
-                prints,
-                writes: 0,
-                says: 0,
-            }
-        }
+        Job::Help => program_outcome::only_printed(put_use(printed)),
+        Job::Version => program_outcome::only_printed(program_wish::put_version(printed)),
+        Job::Point => program_outcome::only_printed(put_point(printed)),
     }
 }
 
@@ -158,14 +171,7 @@ fn show_site(
     let mut entries = [0u32; ENTRIES];
     let sought = program_site::read_site(file, word, &mut entries);
     match sought {
-        Sought::Site(_) => {
-            let prints = text_writer::write(&entries, printed);
-            Lengths {
-                prints,
-                writes: 0,
-                says: 0,
-            }
-        }
+        Sought::Site(_) => program_outcome::only_printed(put_text(&entries, printed)),
         Sought::Missing(_) => {
             program_outcome::only_said(program_site::say_site(sought, name, word, said))
         }

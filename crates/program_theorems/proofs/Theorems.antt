@@ -11,6 +11,7 @@ use contract.Notation.{connectives}
 use denote.Ref.{now}
 use denote.Triple.Clauses.{AtExit}
 use borrow.Fn.World.{World, ArgsD, ResD, Pr}
+use Rattle.layout.specs.declared.Worksheet.{Worksheet}
 use Rattle.layout.specs.Entries.{entryCount}
 use Rattle.layout.specs.Open.{placeCount, blocksCount}
 use Rattle.answers.specs.declared.Answer.the-variants.{Accepted}
@@ -21,6 +22,7 @@ use Rattle.study_changed.specs.Changed.{withEntries}
 use Rattle.study_changed.proofs.Written.{changed-study as study-changed}
 use Rattle.text.specs.Text.{Placed}
 use Rattle.program_words.specs.Words.{wordAt}
+use Rattle.program_outcome.specs.declared.Call.{Call}
 use Rattle.program_outcome.specs.declared.Input.the-variants.{Read}
 use Rattle.program_outcome.specs.declared.Lengths.{Lengths}
 use Rattle.program_outcome.specs.Outcome.{Outcome, writing, Left}
@@ -141,8 +143,9 @@ made-of-texts = texts-made
 
 -- PAGE AFTER PAGE. Where all sites of a study are asked for, `icusheet` gives their pages in order, and nothing else.
 pub all-pages :
-    (words area : List ℕ) (size : ℕ) → asksAll (wordAt words 1) ≡ true → 0 < countOf (take size area)
-    → sheetWhole (record { arguments = 3; input = Read size }) words area ≡ pagesUpTo (Read size) words area (countOf (take size area))
+    (k : Worksheet) (words area : List ℕ) (size : ℕ) → asksAll (wordAt words 1) ≡ true → 0 < countOf (take size area)
+    → let call : Call = record { worksheet = k; arguments = 3; input = Read size } in
+    sheetWhole call words area ≡ pagesUpTo call words area (countOf (take size area))
 all-pages = pages-whole
 
 -- THE STUDY THAT IS WRITTEN. What `icuamend` writes, entries over the block of a site that the file has, is the study file of all
@@ -153,7 +156,7 @@ pub changed-study :
     → withEntries file site entries ≡ fileOf (over (entriesUpTo file (countOf file)) (entryCount * site) entries)
 changed-study = study-changed
 
-pub old-study-not-written : (count : ℕ) (words file : List ℕ) → isOld file ≡ true → amendStudy count words file .writes ≡ []
+pub old-study-not-written : (k : Worksheet) (count : ℕ) (words file : List ℕ) → isOld file ≡ true → amendStudy k count words file .writes ≡ []
 old-study-not-written = old-unwritten
 
 -- THE STUDY THAT IS CONVERTED. What `icustudy convert` writes of a good file, of today or of before, that has no more sites than one of today

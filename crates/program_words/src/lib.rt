@@ -31,6 +31,14 @@ fn next_after(words: &[u8], from: usize) -> usize
     end
 }
 
+// The words past the first.
+pub fn past_first(words: &[u8]) -> &[u8]
+    ensures { λ r. ⌜ now r ≡ laterWords (now (words .entry)) ⌝ }
+{
+    let from = next_after(words, 0);
+    &words[from..]
+}
+
 // Word n, from 0; past the last, a word of no bytes.
 pub fn word(words: &[u8], n: usize) -> &[u8]
     ensures { λ r. ⌜ now r ≡ wordAt (now (words .entry)) n ⌝ }

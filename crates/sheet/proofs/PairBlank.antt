@@ -9,14 +9,17 @@ use lib.Dec.{eqb, lit≤}
 use lib.ListN.{getD}
 use borrow.Author.Tests.{eqb-true, eqb-false}
 use Rattle.answers.specs.declared.Answer.the-variants.{Accepted}
-use Rattle.entries.specs.Judging.{judged}
+use Rattle.entries.specs.Judging.{judgedFor, judged}
 use Rattle.procedure.specs.Approach.{readApproach, isShared}
+use Rattle.layout.specs.declared.Worksheet.the-variants.{Junction, Point}
 use Rattle.layout.specs.Entries.{approachCount}
 use Rattle.layout.specs.Sheet.{BLANK}
-use Rattle.procedure.specs.Pairs.{line, protected, permitted, split, pair}
+use Rattle.procedure.specs.Pairs.{line, protected, permitted, split, pair, pairFor}
 use Rattle.procedure.specs.Sheet.{linesAt, pairAt}
 use Rattle.line_bounds.specs.Bounds.{Bounded}
 use Rattle.line_bounds.proofs.Permitted.{timely-fits}
+use Rattle.sheet_pairs.proofs.Laws.{protected-most}
+use Rattle.sheet.proofs.Laws.{unshared}
 use Rattle.sheet.proofs.Fits.{bounded-at}
 
 module _ (x y : List ℕ) (bx : Bounded x) (by : Bounded y) where
@@ -41,19 +44,28 @@ module _ (x y : List ℕ) (bx : Bounded x) (by : Bounded y) where
   unfolding split
   split-time = omega (arith, bx .line28, by .line28)
 
--- the totals of the pair of approaches a and o: protected, permitted, split
+-- the totals of a junction's pair of approaches a and o: protected, permitted, split
 pub record PairBlank (e : List ℕ) (a o : ℕ) : Type 0 where
-  pub protected : getD (pairAt e a o) 0 0 ≡ BLANK → (isShared (readApproach e a) || isShared (readApproach e o)) ≡ true
-  pub permitted : getD (pairAt e a o) 1 0 ≡ BLANK → (line 26 (linesAt e a o) ≡ BLANK) ⊎ (line 26 (linesAt e o a) ≡ BLANK)
-  pub split : getD (pairAt e a o) 2 0 < BLANK
+  pub protected : getD (pairAt Junction e a o) 0 0 ≡ BLANK → (isShared (readApproach e a) || isShared (readApproach e o)) ≡ true
+  pub permitted : getD (pairAt Junction e a o) 1 0 ≡ BLANK → (line 26 (linesAt Junction e a o) ≡ BLANK) ⊎ (line 26 (linesAt Junction e o a) ≡ BLANK)
+  pub split : getD (pairAt Junction e a o) 2 0 < BLANK
 
 pub pair-blank : (e : List ℕ) → judged e ≡ Accepted → (a o : ℕ) → a < approachCount → o < approachCount → PairBlank e a o
-unfolding pairAt pair
-pair-blank e ok a o h k =
-    let first = bounded-at e ok a o h k in
-    let second = bounded-at e ok o a k h in
+unfolding pairAt pairFor pair
+pair-blank e ok a o h p =
+    let x = linesAt Junction e a o in
+    let y = linesAt Junction e o a in
+    let first = bounded-at Junction e ok a o h in
+    let second = bounded-at Junction e ok o a p in
     record {
-      protected = protected-blank (linesAt e a o) (linesAt e o a) first second _;
-      permitted = permitted-blank (linesAt e a o) (linesAt e o a) first second;
-      split = split-time (linesAt e a o) (linesAt e o a) first second;
+      protected = protected-blank x y first second _;
+      permitted = permitted-blank x y first second;
+      split = split-time x y first second;
     }
+
+-- and of a single point's one total: it is a time
+pub point-times : (e : List ℕ) → judgedFor Point e ≡ Accepted → (a o : ℕ) → a < approachCount → o < approachCount → getD (pairAt Point e a o) 0 0 < BLANK
+unfolding pairAt pairFor
+point-times e ok a o h p =
+    rw (unshared Point e ok a h refl, unshared Point e ok o p refl)
+    (omega (arith, protected-most false (linesAt Point e a o) (linesAt Point e o a) (bounded-at Point e ok a o h) (bounded-at Point e ok o a p)))

@@ -5,17 +5,18 @@ use mathlib.Core.List.{List}
 use lib.ListN.{length}
 use borrow.Author.Tests.{eq-eqb}
 use Rattle.answers.specs.Answers.{left-by}
+use Rattle.layout.specs.declared.Worksheet.{Worksheet}
 use Rattle.layout.specs.Sheet.{sheetCount}
-use Rattle.entries.specs.Judging.{judged}
-use Rattle.procedure.specs.Sheet.{sheet}
+use Rattle.entries.specs.Judging.{judgedFor}
+use Rattle.procedure.specs.Sheet.{sheetFor}
 use Rattle.sheet_cells.specs.Cells.{sheetAnswer}
 use Rattle.sheet.specs.Fill.{fillAnswer, filled}
 
-module _ (e d : List ℕ) (sized : length d ≡ sheetCount) where
-  pub fill-answers : fillAnswer e d ≡ judged e
+module _ (k : Worksheet) (e d : List ℕ) (sized : length d ≡ sheetCount k) where
+  pub fill-answers : fillAnswer k e d ≡ judgedFor k e
   unfolding fillAnswer sheetAnswer
-  fill-answers = rw (eq-eqb (length d) sheetCount sized)
+  fill-answers = rw (eq-eqb (length d) (sheetCount k) sized)
 
-  pub fill-leaves : filled e d ≡ left-by (judged e) (sheet e) d
+  pub fill-leaves : filled k e d ≡ left-by (judgedFor k e) (sheetFor k e) d
   unfolding filled
   fill-leaves = rw fill-answers

@@ -3,14 +3,15 @@ use mathlib.Core.List.{List}
 use Prim.Native.Nat.{ℕ}
 use Rattle.answers.specs.Answers.{_then_, left-by}
 use Rattle.answers.specs.declared.Answer.{Answer}
-use Rattle.entries.specs.Judging.{judged}
+use Rattle.layout.specs.declared.Worksheet.{Worksheet}
+use Rattle.entries.specs.Judging.{judgedFor}
 use Rattle.sheet_cells.specs.Cells.{sheetAnswer}
-use Rattle.procedure.specs.Sheet.{sheet}
+use Rattle.procedure.specs.Sheet.{sheetFor}
 
--- the answer to filling the sheet d from the entries e
-unfoldable pub fillAnswer : List ℕ → List ℕ → Answer
-fillAnswer e d = sheetAnswer d then judged e
+-- the answer to filling the sheet d, of kind k, from the entries e
+unfoldable pub fillAnswer : Worksheet → List ℕ → List ℕ → Answer
+fillAnswer k e d = sheetAnswer k d then judgedFor k e
 
 -- the sheet afterwards: the procedure's, or as it was
-unfoldable pub filled : List ℕ → List ℕ → List ℕ
-filled e d = left-by (fillAnswer e d) (sheet e) d
+unfoldable pub filled : Worksheet → List ℕ → List ℕ → List ℕ
+filled k e d = left-by (fillAnswer k e d) (sheetFor k e) d

@@ -6,12 +6,13 @@ use Rattle.units.specs.Rounding.{up}
 use Rattle.line_factors.specs.Factors.{laneFactor, factorOf}
 use Rattle.entries.specs.Layout.{movementEntry, approachEntry}
 use Rattle.procedure.specs.Approach.{readMovement, readApproach}
-use Rattle.procedure.specs.Lines.{volume, flowOf, factor, flow, single, leftShare, equivalent, flowA, leftA, firstLines, lines}
-use Rattle.procedure.specs.Sheet.{linesAt, sheet}
+use Rattle.procedure.specs.Lines.{volume, flowOf, factor, flow, single, leftShare, equivalent, flowA, leftA, firstLines, lines, linesFor}
+use Rattle.procedure.specs.Sheet.{linesAt, sheetFor}
+use Rattle.layout.specs.declared.Worksheet.the-variants.{Junction}
 use Rattle.procedure.specs.Junctions.{K9}
-use Rattle.sheet_beside.specs.Beside.{ownLane, added, besideAt, besideOf, beside}
+use Rattle.sheet_beside.specs.Beside.{ownLane, laneFor, added, besideAt, besideOf, beside}
 
-pub own-lane-of-K9 : take 5 (beside K9) ≡ (59 ∷ 300_000 ∷ 601 ∷ 0 ∷ 0 ∷ [])
-unfolding besideOf besideAt ownLane added up laneFactor factorOf movementEntry approachEntry readMovement readApproach volume flowOf factor flow single
-    leftShare equivalent flowA leftA firstLines lines linesAt sheet
+pub own-lane-of-K9 : take 5 (beside Junction K9) ≡ (59 ∷ 300_000 ∷ 601 ∷ 0 ∷ 0 ∷ [])
+unfolding besideOf besideAt laneFor ownLane added up laneFactor factorOf movementEntry approachEntry readMovement readApproach volume flowOf factor flow single
+    leftShare equivalent flowA leftA firstLines lines linesFor linesAt sheetFor
 own-lane-of-K9 = refl

@@ -1,25 +1,28 @@
 -- What stands beside a right total is what it adds: with line 18 it makes the total.
-use mathlib.Core.Path.{_≡_, refl, sym, _∙_}
+use mathlib.Core.Path.{_≡_, refl, _∙_}
 use mathlib.Core.Bool.{Bool, true, false, cond, _||_}
 use mathlib.Core.List.{List, [], _∷_}
-use Prim.Native.Nat.{ℕ, _+_, _-_, _*_, _/_, _<_, _≤_}
+use Prim.Native.Nat.{ℕ, _+_, _*_, _/_, _<_, _≤_}
 use native.Mathlib.Omega.{arith}
-use lib.Dec.{eqb, lit<, lit≤}
-use lib.ListN.{length, getD}
+use lib.Dec.{eqb, lit<}
+use lib.ListN.{length, getD, take, drop, length-drop}
+use lib.Seq.{length-take-le, getD-take, getD-drop, ext-getD}
+use Rattle.layout.specs.declared.Worksheet.{Worksheet}
 use Rattle.layout.specs.Entries.{approachCount, entryCount, EB, WB, NB, SB, freeNo, approachPlace}
-use Rattle.layout.specs.Sheet.{lineCount, inPair, lastFrom}
+use Rattle.layout.specs.Sheet.{lineCount, linesOf, pairCells, pairOf, lastFrom}
 use Rattle.procedure.specs.Approach.{readApproach, isFree}
-use Rattle.procedure.specs.Pairs.{line, pickOf, throughTime, leftTime, rightTotal}
-use Rattle.procedure.specs.Sheet.{linesAt, pairAt, rightAt, lastOf, lastAt, sheet}
+use Rattle.procedure.specs.Pairs.{line, throughTime, leftTime, rightTotal}
+use Rattle.procedure.specs.Sheet.{linesAt, pairAt, rightAt, lastOf, lastAt, sheetFor}
 use Rattle.entries.specs.Layout.{approachEntry}
 use Rattle.sheet_cells.specs.Cells.{opposite}
-use Rattle.sheet_cells.proofs.Cells.{entry-cell, line-cell, pair-cell, last-cell}
-use Rattle.sheet_beside.specs.Beside.{lineIn, pickIn, throughIn, leftIn, added}
+use Rattle.sheet_cells.proofs.Cells.{sheet-length, lines-length, pair-length, entry-cell, line-cell, pair-cell, last-cell}
+use Rattle.sheet_beside.specs.Beside.{linesIn, pairIn, lineIn, throughIn, leftIn, added}
+use Rattle.sheet_beside.proofs.Laws.{within}
 
 -- a right total by the cells: line 18 and the two numbers beside it, where there are rights
-abbrev pub rightIn : List ℕ → ℕ → ℕ → ℕ → ℕ
-rightIn cells a o c =
-    cond (eqb (lineIn cells a 3) 0) 0 (lineIn cells a 18 + getD (added cells a o c) 0 0 + getD (added cells a o c) 1 0)
+abbrev pub rightIn : Worksheet → List ℕ → ℕ → ℕ → ℕ → ℕ
+rightIn k cells a o c =
+    cond (eqb (lineIn k cells a 3) 0) 0 (lineIn k cells a 18 + getD (added k cells a o c) 0 0 + getD (added k cells a o c) 1 0)
 
 -- nothing is added to a free right
 parted : (none free : Bool) (l x y : ℕ)
@@ -29,57 +32,71 @@ parted true free l x y = refl
 parted false true l x y = omega arith
 parted false false l x y = refl
 
-module _ (e : List ℕ) (long : length e ≡ entryCount) where
-  -- the lines of approach a and the pick of its pair are the sheet's; o is opposite it
+-- a part of a list, by its numbers
+part-is : (list part : List ℕ) (from n : ℕ) → length part ≡ n → from + n ≤ length list
+    → ((t : ℕ) → t < n → getD list (from + t) 0 ≡ getD part t 0) → take n (drop from list) ≡ part
+part-is list part from n long room each =
+    let taken : length (take n (drop from list)) ≡ n = length-take-le n (drop from list) (omega (arith, length-drop from list)) in
+    ext-getD 0 (take n (drop from list)) part (omega arith)
+    (λ t h. getD-take n (drop from list) t 0 (omega arith) ∙ getD-drop from list t 0 ∙ each t (omega arith))
+
+module _ (k : Worksheet) (e : List ℕ) (long : length e ≡ entryCount) where
+  abbrev cells : List ℕ
+  cells = sheetFor k e
+
+  -- the lines of approach a and the cells of its pair are the sheet's; o is opposite it
   module _ (a o : ℕ) (h : a < approachCount) (facing : opposite a ≡ o) where
     abbrev own : List ℕ
-    own = pairAt e (2 * (a / 2)) (2 * (a / 2) + 1)
+    own = pairAt k e (2 * (a / 2)) (2 * (a / 2) + 1)
 
-    line-is : (k : ℕ) → 0 < k → k ≤ lineCount → lineIn (sheet e) a k ≡ line k (linesAt e a o)
-    line-is k p m = rw (← facing) (line-cell e long a (k - 1) h (omega arith))
+    lines-are : linesIn k cells a ≡ linesAt k e a o
+    lines-are =
+        rw (← facing)
+        (part-is cells (linesAt k e a (opposite a)) (linesOf k a) (lineCount k) (lines-length k e a (opposite a))
+        (omega (arith, within k a h .lines, sheet-length k e long)) (λ t p. line-cell k e long a t h p))
 
-    pick-is : pickIn (sheet e) a ≡ pickOf own
-    pick-is = pair-cell e long (a / 2) 3 (omega arith) (lit< tt)
+    pair-is : pairIn k cells a ≡ own
+    pair-is =
+        part-is cells own (pairOf k (a / 2)) (pairCells k) (pair-length k e (2 * (a / 2)) (2 * (a / 2) + 1))
+        (omega (arith, within k a h .pair, sheet-length k e long)) (λ t p. pair-cell k e long (a / 2) t (omega arith) p)
 
-    through-is : throughIn (sheet e) a ≡ throughTime own (linesAt e a o)
-    unfolding throughIn throughTime
-    through-is = rw (pick-is, line-is 17 (lit< tt) (lit≤ tt), line-is 26 (lit< tt) (lit≤ tt), line-is 28 (lit< tt) (lit≤ tt))
+    through-is : throughIn k cells a ≡ throughTime own (linesAt k e a o)
+    through-is = rw (lines-are, pair-is)
 
-    left-is : leftIn (sheet e) a ≡ leftTime own (linesAt e a o)
-    unfolding leftIn leftTime
-    left-is = rw (pick-is, line-is 16 (lit< tt) (lit≤ tt), line-is 28 (lit< tt) (lit≤ tt))
+    left-is : leftIn k cells a ≡ leftTime own (linesAt k e a o)
+    left-is = rw (lines-are, pair-is)
 
-    free-is : getD (sheet e) (approachPlace a freeNo) 0 ≡ readApproach e a .free .0
+    free-is : getD cells (approachPlace a freeNo) 0 ≡ readApproach e a .free .0
     unfolding readApproach approachEntry
-    free-is = entry-cell e long (approachPlace a freeNo) (omega arith)
+    free-is = entry-cell k e long (approachPlace a freeNo) (omega arith)
 
-    total-is : (c x y : ℕ) → throughIn (sheet e) c ≡ x → leftIn (sheet e) o ≡ y
-        → rightTotal (isFree (readApproach e a)) (linesAt e a o) x y ≡ rightIn (sheet e) a o c
+    total-is : (c x y : ℕ) → throughIn k cells c ≡ x → leftIn k cells o ≡ y
+        → rightTotal (isFree (readApproach e a)) (linesAt k e a o) x y ≡ rightIn k cells a o c
     unfolding rightTotal added
     total-is c x y p q =
-        rw (p, q, line-is 3 (lit< tt) (lit≤ tt), line-is 18 (lit< tt) (lit≤ tt), free-is)
-        (parted (eqb (line 3 (linesAt e a o)) 0) (isFree (readApproach e a)) (line 18 (linesAt e a o)) x y)
+        rw (p, q, lines-are, free-is)
+        (parted (eqb (line 3 (linesAt k e a o)) 0) (isFree (readApproach e a)) (line 18 (linesAt k e a o)) x y)
 
   pub record RightTotals : Type 0 where
-    pub eb : getD (sheet e) (lastFrom + EB) 0 ≡ rightIn (sheet e) EB WB SB
-    pub wb : getD (sheet e) (lastFrom + WB) 0 ≡ rightIn (sheet e) WB EB NB
-    pub nb : getD (sheet e) (lastFrom + NB) 0 ≡ rightIn (sheet e) NB SB EB
-    pub sb : getD (sheet e) (lastFrom + SB) 0 ≡ rightIn (sheet e) SB NB WB
+    pub eb : getD cells (lastFrom k + EB) 0 ≡ rightIn k cells EB WB SB
+    pub wb : getD cells (lastFrom k + WB) 0 ≡ rightIn k cells WB EB NB
+    pub nb : getD cells (lastFrom k + NB) 0 ≡ rightIn k cells NB SB EB
+    pub sb : getD cells (lastFrom k + SB) 0 ≡ rightIn k cells SB NB WB
 
   pub right-totals : RightTotals
   unfolding opposite lastAt lastOf rightAt
   right-totals =
       record {
         eb =
-            last-cell e long EB
+            last-cell k e long EB
             ∙ total-is EB WB (lit< tt) refl SB _ _ (through-is SB NB (lit< tt) refl) (left-is WB EB (lit< tt) refl);
         wb =
-            last-cell e long WB
+            last-cell k e long WB
             ∙ total-is WB EB (lit< tt) refl NB _ _ (through-is NB SB (lit< tt) refl) (left-is EB WB (lit< tt) refl);
         nb =
-            last-cell e long NB
+            last-cell k e long NB
             ∙ total-is NB SB (lit< tt) refl EB _ _ (through-is EB WB (lit< tt) refl) (left-is SB NB (lit< tt) refl);
         sb =
-            last-cell e long SB
+            last-cell k e long SB
             ∙ total-is SB NB (lit< tt) refl WB _ _ (through-is WB EB (lit< tt) refl) (left-is NB SB (lit< tt) refl);
       }

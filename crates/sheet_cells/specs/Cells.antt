@@ -4,14 +4,15 @@ use mathlib.Core.List.{List}
 use Prim.Native.Nat.{ℕ, _+_, _-_, _%_}
 use lib.ListN.{length}
 use lib.Dec.{eqb}
+use Rattle.layout.specs.declared.Worksheet.{Worksheet}
 use Rattle.layout.specs.Sheet.{sheetCount}
 use Rattle.answers.specs.Answers.{refuse-if}
 use Rattle.answers.specs.declared.Refusal.the-variants.{Size}
 use Rattle.answers.specs.declared.Answer.{Answer}
 
--- 1 SIZE: "or sheet not" 221; place 0
-unfoldable pub sheetAnswer : List ℕ → Answer
-sheetAnswer d = refuse-if (not (eqb (length d) sheetCount)) Size 0
+-- 1 SIZE: "or sheet not" 221; of a single point, Request Seven, "by that length", 175; place 0
+unfoldable pub sheetAnswer : Worksheet → List ℕ → Answer
+sheetAnswer k d = refuse-if (not (eqb (length d) (sheetCount k))) Size 0
 
 -- EB and WB, NB and SB
 unfoldable pub opposite : ℕ → ℕ

@@ -3,11 +3,12 @@ ghost use mathlib.Core.Path.{_≡_};
 ghost use Rattle.sheet_cells.specs.Cells.{sheetAnswer};
 use answers::Answer;
 use answers::Refusal;
+use layout::Worksheet;
 
-pub fn check_sheet(sheet: &[u32]) -> Answer
-    ensures { λ r. ⌜ r ≡ sheetAnswer (now (sheet .entry)) ⌝ }
+pub fn check_sheet(kind: Worksheet, sheet: &[u32]) -> Answer
+    ensures { λ r. ⌜ r ≡ sheetAnswer kind (now (sheet .entry)) ⌝ }
 {
-    if sheet.len() != layout::CELLS {
+    if sheet.len() != kind.cells() {
         return Answer::Refused(Refusal::Size, 0);
     }
     Answer::Accepted

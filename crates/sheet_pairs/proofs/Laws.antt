@@ -38,6 +38,11 @@ permitted-parts x y h = go (eqb x BLANK) (eqb y BLANK) h
     go false false p = (omega arith, omega arith)
 
 module _ (shared : Bool) (x y : List ℕ) (bx : Bounded x) (by : Bounded y) where
+  -- a protected time, where no lane is shared
+  pub protected-most : protected false x y ≤ mostPicked
+  unfolding protected
+  protected-most = omega (arith, bx .line16, bx .line17, by .line16, by .line17)
+
   pub split-most : split x y ≤ mostPicked
   unfolding split
   split-most = omega (arith, bx .line28, by .line28)

@@ -5,10 +5,11 @@ ghost use mathlib.Core.List.{[], _∷_};
 ghost use Prim.Native.Nat.{_+_, _≤_, max};
 ghost use lib.Dec.{eqb, leb};
 ghost use Rattle.layout.specs.Sheet.{BLANK as blank};
-ghost use Rattle.procedure.specs.Pairs.{picked, pair, by-pick as byPick};
+ghost use Rattle.procedure.specs.Pairs.{protected, picked, pair, pairFor, pickOf, by-pick as byPick};
 ghost use Rattle.line_bounds.specs.Bounds.{mostAdjusted, Bounded};
-ghost use Rattle.line_stages.specs.Cells.{cellsOf};
-ghost use Rattle.sheet_pairs.specs.Cells.{pairCells};
+ghost use Rattle.line_stages.specs.Cells.{cellsOf, cellsFor};
+ghost use Rattle.sheet_pairs.specs.Cells.{pairCells, pairIn};
+use layout::Worksheet;
 use line_stages::Lines;
 use line_stages::Times;
 use units::Ms;
@@ -84,8 +85,8 @@ pub fn by_pick(pick: u32, protected: u32, permitted: u32, split: u32) -> u32
     split
 }
 
-// The cells of a pair, from the lines of its two approaches.
-pub fn pair_of(shared: bool, x: Lines, y: Lines) -> Pair
+// The cells of a junction's pair, from the lines of its two approaches.
+fn choice_of(shared: bool, x: Lines, y: Lines) -> Pair
     requires { ⌜ Bounded (cellsOf x) × Bounded (cellsOf y) ⌝ }
     ensures { λ r. ⌜ pairCells r ≡ pair shared (cellsOf x) (cellsOf y) ⌝ }
 {
@@ -97,6 +98,31 @@ pub fn pair_of(shared: bool, x: Lines, y: Lines) -> Pair
         permitted,
         split,
         picked: pick(protected, permitted, split),
+    }
+}
+
+// Of a single point's: protected is the only phasing, and so the one that is picked.
+fn protected_of(shared: bool, x: Lines, y: Lines) -> Pair
+    requires { ⌜ Bounded (cellsOf x) × Bounded (cellsOf y) ⌝ }
+    ensures { λ r. ⌜ (r .protected .0 ≡ protected shared (cellsOf x) (cellsOf y)) × (r .picked ≡ 0) ⌝ }
+{
+    Pair {
+        protected: protected_time(shared, x.first.times, y.first.times),
+        permitted: BLANK,
+        split: BLANK,
+        picked: 0,
+    }
+}
+
+// The cells of a pair on a sheet of a kind, and its pick, from the lines of its two approaches.
+pub fn pair_of(kind: Worksheet, shared: bool, x: Lines, y: Lines) -> Pair
+    requires { ⌜ Bounded (cellsOf x) × Bounded (cellsOf y) ⌝ }
+    ensures { λ r. ⌜ pairIn kind r ≡ pairFor kind shared (cellsFor kind x) (cellsFor kind y) ⌝ }
+    ensures { λ r. ⌜ r .picked ≡ pickOf (pairIn kind r) ⌝ }
+{
+    match kind {
+        Worksheet::Junction => choice_of(shared, x, y),
+        Worksheet::Point => protected_of(shared, x, y),
     }
 }
 

@@ -8,6 +8,7 @@ ghost use Rattle.layout.specs.Entries.{approachCount, entryCount};
 ghost use Rattle.entries.specs.Judging.{judged};
 ghost use Rattle.procedure.specs.Approach.{readApproach, isShared};
 ghost use Rattle.sheet_street.specs.Street.{LinesAt, StreetAt};
+use layout::Worksheet;
 use line_stages::Lines;
 use sheet_pairs::Pair;
 
@@ -37,21 +38,28 @@ fn either_shares(entries: &[u32], a: usize, o: usize) -> bool
 }
 
 // The lines of an approach of acceptable entries, with o opposite it. Read here, the entries need not be handed on.
-pub fn lines_at(entries: &[u32], a: usize, o: usize) -> Lines
+pub fn lines_at(kind: Worksheet, entries: &[u32], a: usize, o: usize) -> Lines
     requires { ⌜ (judged (now entries) ≡ Accepted) × (a < approachCount) × (o < approachCount) ⌝ }
-    ensures { λ r. ⌜ LinesAt (now (entries .entry)) a o r ⌝ }
+    ensures { λ r. ⌜ LinesAt kind (now (entries .entry)) a o r ⌝ }
 {
     let s = procedure::read_approach(entries, a);
     let t = procedure::read_approach(entries, o);
-    lines::lines_of(s, t, procedure::read_cycle(entries))
+    lines::lines_of(kind, s, t, procedure::read_cycle(entries))
 }
 
 // The street of an approach and the one opposite it, whose lines are worked out.
-pub fn street_at(entries: &[u32], a: usize, o: usize, one: Lines, other: Lines) -> Street
+pub fn street_at(
+    kind: Worksheet,
+    entries: &[u32],
+    a: usize,
+    o: usize,
+    one: Lines,
+    other: Lines,
+) -> Street
     requires { ⌜ (judged (now entries) ≡ Accepted) × (a < approachCount) × (o < approachCount) ⌝ }
-    requires { ⌜ LinesAt (now entries) a o one × LinesAt (now entries) o a other ⌝ }
-    ensures { λ r. ⌜ StreetAt (now (entries .entry)) a o r ⌝ }
+    requires { ⌜ LinesAt kind (now entries) a o one × LinesAt kind (now entries) o a other ⌝ }
+    ensures { λ r. ⌜ StreetAt kind (now (entries .entry)) a o r ⌝ }
 {
-    let pair = sheet_pairs::pair_of(either_shares(entries, a, o), one, other);
+    let pair = sheet_pairs::pair_of(kind, either_shares(entries, a, o), one, other);
     Street { one, other, pair }
 }

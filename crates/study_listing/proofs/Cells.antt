@@ -9,6 +9,7 @@ use Rattle.answers.specs.declared.Answer.{Answer}
 use Rattle.answers.specs.declared.Answer.the-variants.{Accepted}
 use Rattle.answers.specs.declared.Answer.the-variants.{Refused as No}
 use Rattle.layout.specs.Entries.{entryCount}
+use Rattle.layout.specs.declared.Worksheet.the-variants.{Junction}
 use Rattle.layout.specs.Sheet.{lastFrom, letterCell, sheetCount}
 use Rattle.entries.specs.Judging.{judged}
 use Rattle.entries.proofs.Laws.{accepted-count}
@@ -22,9 +23,9 @@ use Rattle.study.proofs.Laws.{entries-given}
 use Rattle.study_lines.specs.Working.{letterMost, Lettered}
 use Rattle.study_listing.specs.Listing.{shown, siteOf}
 
-letter-cell : (e : List ℕ) → length e ≡ entryCount → getD (sheet e) letterCell 0 ≤ letterMost
+letter-cell : (e : List ℕ) → length e ≡ entryCount → getD (sheet e) (letterCell Junction) 0 ≤ letterMost
 unfolding lastAt lastOf
-letter-cell e whole = rw (last-cell e whole (letterCell - lastFrom)) (letter-most _)
+letter-cell e whole = rw (last-cell Junction e whole (letterCell Junction - lastFrom Junction)) (letter-most _)
 
 pub lettered : (e : List ℕ) → Lettered (siteOf e)
 unfolding siteOf
@@ -35,23 +36,23 @@ lettered e = by (judged e) refl
     by (No why place) bad = tt
 
 -- filling a sheet of the right size answers as the entries are judged, and shows the site
-fill-shows : (e before : List ℕ) {answer : Answer} {after : List ℕ} → length before ≡ sheetCount
-    → answer ≡ fillAnswer e before
-    → after ≡ filled e before
+fill-shows : (e before : List ℕ) {answer : Answer} {after : List ℕ} → length before ≡ sheetCount Junction
+    → answer ≡ fillAnswer Junction e before
+    → after ≡ filled Junction e before
     → shown answer after ≡ siteOf e
 unfolding fillAnswer filled sheetAnswer siteOf
 fill-shows e before {answer} {after} sized answers fills = by (judged e) refl
   where
     by : (judgement : Answer) → judged e ≡ judgement → shown answer after ≡ shown (judged e) (sheet e)
-    by Accepted ok = rw (answers, fills) (simp (eq-eqb (length before) sheetCount sized, ok))
-    by (No why place) bad = rw (answers, fills) (simp (eq-eqb (length before) sheetCount sized, bad))
+    by Accepted ok = rw (answers, fills) (simp (eq-eqb (length before) (sheetCount Junction) sized, ok))
+    by (No why place) bad = rw (answers, fills) (simp (eq-eqb (length before) (sheetCount Junction) sized, bad))
 
 -- so what the two calls leave, in areas of noughts, shows the site of the file
 pub site-shows : (file : List ℕ) (site : ℕ) (entries : List ℕ) {answer : Answer} {after : List ℕ} → siteAnswer file site ≡ Accepted
     → entries ≡ left-by (siteEntriesAnswer file site entryCount) (siteEntries file site) (replicate entryCount 0)
-    → answer ≡ fillAnswer entries (replicate sheetCount 0)
-    → after ≡ filled entries (replicate sheetCount 0)
+    → answer ≡ fillAnswer Junction entries (replicate (sheetCount Junction) 0)
+    → after ≡ filled Junction entries (replicate (sheetCount Junction) 0)
     → shown answer after ≡ siteOf (siteEntries file site)
 site-shows file site entries there read answers fills =
     let is = read ∙ entries-given file site entryCount (siteEntries file site) (replicate entryCount 0) there refl in
-    rw is at (fill-shows entries (replicate sheetCount 0) refl answers fills)
+    rw is at (fill-shows entries (replicate (sheetCount Junction) 0) refl answers fills)

@@ -13,12 +13,12 @@ use Rattle.procedure.specs.Lines.{a, b, volume, vST, turningT, fT, flowOf, fact
 use Rattle.procedure.specs.Lines.{adjustedOf, weightedOf, weighted, crossed, nobodyDriving, adjusted, heaviest, vLL, q, single, leftShare}
 use Rattle.procedure.specs.Lines.{equivalent, E, flowA, sA}
 use Rattle.procedure.specs.Lines.{optionAOf, leftA, optionA, allowedA, allowedB, empty, line23, sB, throughB, optionB, line24, lesser, line25, line26}
-use Rattle.procedure.specs.Lines.{line27, line28, firstLines, laterLines, lines}
-use Rattle.procedure.specs.Pairs.{protected, permitted, split, picked, pair, throughTime, leftTime, rightTotal, icuOf, endsPassed}
-use Rattle.procedure.specs.Sheet.{linesAt, pairAt, rightAt, lastOf, lastAt, sheet}
+use Rattle.procedure.specs.Lines.{line27, line28, firstLines, laterLines, lines, linesFor}
+use Rattle.procedure.specs.Pairs.{protected, permitted, split, picked, pair, pairFor, throughTime, leftTime, rightTotal, icuOf, endsPassed}
+use Rattle.procedure.specs.Sheet.{linesAt, pairAt, rightAt, lastOf, lastAt, sheetFor}
 use Rattle.answers.specs.Answers.{inTurn}
 use Rattle.kinds.specs.Kinds.{kindAt}
-use Rattle.entries.specs.Judging.{sizeAnswer, outside, badlyShared, otherLanes, unserved, judged}
+use Rattle.entries.specs.Judging.{sizeAnswer, outside, badlyShared, otherLanes, unserved, judgedFor}
 use Rattle.procedure.specs.Junctions.{K1, side, four}
 use Rattle.lists.specs.Lists.{table}
 use Rattle.study_numbers.specs.Numbers.{bytesOf, packed}
@@ -42,8 +42,8 @@ pub example :
 unfolding ascii kindAt up term turns faded decayNumber laneFactor factorOf movementEntry approachEntry readMovement readApproach a b volume
     vST turningT fT flowOf factor flow turningST sST sSL G interference frequency F time reference adjustedOf weightedOf weighted crossed
     nobodyDriving adjusted heaviest vLL q single leftShare equivalent E flowA sA optionAOf leftA optionA allowedA allowedB empty line23
-    sB throughB optionB line24 lesser line25 line26 line27 line28 firstLines laterLines lines protected permitted split picked pair
-    throughTime leftTime rightTotal icuOf endsPassed linesAt pairAt rightAt lastOf lastAt sheet inTurn sizeAnswer outside badlyShared
-    otherLanes unserved judged bytesOf table packed startsWith judgement fileOf digits decimal numberThen ratedLine refusedLine siteOf
+    sB throughB optionB line24 lesser line25 line26 line27 line28 firstLines laterLines lines linesFor protected permitted split picked pair
+    pairFor throughTime leftTime rightTotal icuOf endsPassed linesAt pairAt rightAt lastOf lastAt sheetFor inTurn sizeAnswer outside badlyShared
+    otherLanes unserved judgedFor bytesOf table packed startsWith judgement fileOf digits decimal numberThen ratedLine refusedLine siteOf
     siteLines listing formatOf blockEntries widenedAt widened
 example = (refl, refl)

@@ -3,6 +3,7 @@ use Prim.Native.Nat.{ℕ, zero, suc, _+_}
 use mathlib.Core.List.{List, [], _++_}
 use lib.ListN.{length, getD}
 use lib.Dec.{ltb}
+use Rattle.layout.specs.declared.Worksheet.the-variants.{Junction}
 use Rattle.layout.specs.Sheet.{pickCell, icuCell, letterCell}
 use Rattle.answers.specs.Answers.{refuse-if}
 use Rattle.answers.specs.declared.Refusal.the-variants.{File}
@@ -22,8 +23,8 @@ use Rattle.study_lines.specs.declared.Site.the-variants.{Rated, Refused}
 abbrev pub ratingOf : List ℕ → Rating
 ratingOf cells =
     record {
-      icu = getD cells icuCell 0;
-      letter = getD cells letterCell 0;
+      icu = getD cells (icuCell Junction) 0;
+      letter = getD cells (letterCell Junction) 0;
       first = getD cells (pickCell 0) 0;
       second = getD cells (pickCell 1) 0;
     }

@@ -10,6 +10,7 @@ ghost use Rattle.answers.specs.declared.Answer.the-variants.{Accepted};
 ghost use Rattle.study.specs.Study.{judgement, siteAnswer, siteEntries, sitesOf};
 ghost use Rattle.lists.specs.Lists.{over};
 use answers::Answer;
+use layout::Worksheet;
 use study_lines::Rating;
 use study_lines::Site;
 
@@ -29,7 +30,7 @@ fn site_cells(file: &[u8], site: u32) -> Site
     let mut entries = [0u32; layout::ENTRIES];
     let mut cells = [0u32; layout::CELLS];
     study::site_entries(file, site, &mut entries);
-    let answer = sheet::fill(&entries, &mut cells);
+    let answer = sheet::fill(Worksheet::Junction, &entries, &mut cells);
     match answer {
         Answer::Accepted => Site::Rated(Rating {
             icu: cells[layout::ICU_CELL],

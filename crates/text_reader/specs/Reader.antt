@@ -1,9 +1,10 @@
--- What reading a junction's text comes to: its entries, or the first thing wrong and where it stands.
+-- What reading a text comes to, for a sheet of kind k: its entries, or the first thing wrong and where it stands.
 use Prim.Native.Nat.{ℕ, _-_}
 use mathlib.Core.Bool.{cond}
 use mathlib.Core.List.{List}
 use lib.ListN.{length, getD}
 use lib.Dec.{ltb}
+use Rattle.layout.specs.declared.Worksheet.{Worksheet}
 use Rattle.layout.specs.Entries.{sharedNo, volumeNo, approachPlace, movementPlace}
 use Rattle.answers.specs.Answers.{refusalPlace}
 use Rattle.answers.specs.declared.Answer.{Answer}
@@ -11,7 +12,7 @@ use Rattle.answers.specs.declared.Answer.the-variants.{Accepted, Refused as No}
 use Rattle.answers.specs.declared.Place.{Place}
 use Rattle.answers.specs.declared.Place.the-variants.{OfNothing, OfEntries, OfApproaches, OfMovements, OfBytes, OfRecord, OfStudy}
 use Rattle.answers.specs.declared.Refusal.{Refusal}
-use Rattle.entries.specs.Judging.{judged}
+use Rattle.entries.specs.Judging.{judgedFor}
 use Rattle.text_values.specs.declared.Trouble.the-variants.{TooLong}
 use Rattle.text_words.specs.declared.Found.{Found}
 use Rattle.text_words.specs.declared.Found.the-variants.{Well, Wrong}
@@ -40,20 +41,20 @@ abbrev pub judgedAs : Answer → List ℕ → Reading
 judgedAs Accepted places = Read
 judgedAs (No why place) places = Refused why place (faultPlace places why place)
 
-abbrev pub foundAs : Found → List ℕ → List ℕ → Reading
-foundAs Well entries places = judgedAs (judged entries) places
-foundAs (Wrong why place) entries places = Misread why place
+abbrev pub foundAs : Worksheet → Found → List ℕ → List ℕ → Reading
+foundAs k Well entries places = judgedAs (judgedFor k entries) places
+foundAs k (Wrong why place) entries places = Misread why place
 
-unfoldable pub shortReading : List ℕ → Reading
-shortReading text = foundAs (parsed text .reader .found) (parsed text .entries) (parsed text .places)
+unfoldable pub shortReading : Worksheet → List ℕ → Reading
+shortReading k text = foundAs k (parsed text .reader .found) (parsed text .entries) (parsed text .places)
 
 -- the most bytes that a text has
 abbrev pub textMost : ℕ
 textMost = 65_535
 
 -- the entries, or the first thing wrong and where it stands in the text past its mark
-unfoldable pub reading : List ℕ → Reading
-reading text = cond (ltb textMost (length text)) (Misread TooLong (textMost - markSize text)) (shortReading text)
+unfoldable pub reading : Worksheet → List ℕ → Reading
+reading k text = cond (ltb textMost (length text)) (Misread TooLong (textMost - markSize text)) (shortReading k text)
 
 abbrev pub keptUnlessRead : Reading → List ℕ → List ℕ → List ℕ
 keptUnlessRead Read new old = new

@@ -1,4 +1,4 @@
-// A junction's text read: the entries, or the first thing wrong and where it stands.
+// A text read for a sheet of a kind: the entries, or the first thing wrong and where it stands.
 ghost use mathlib.Core.Path.{_≡_};
 ghost use lib.ListN.{length};
 ghost use Rattle.lists.specs.Lists.{table};
@@ -9,6 +9,7 @@ use answers::Place;
 use answers::Refusal;
 use kinds::Kind;
 use layout::ENTRIES;
+use layout::Worksheet;
 use text_values::Trouble;
 use text_words::Found;
 
@@ -65,9 +66,10 @@ fn fault_place(places: &[usize], why: Refusal, place: u32) -> usize
     places[entry] - 1
 }
 
-fn read_short(text: &[u8], entries: &mut [u32; ENTRIES]) -> Reading
-    ensures { λ r. ⌜ r ≡ shortReading (now (text .entry)) ⌝ }
-    ensures { λ r. ⌜ now (entries .exit) ≡ keptUnlessRead (shortReading (now (text .entry))) (parsed (now (text .entry)) .entries) (now (entries .entry)) ⌝ }
+fn read_short(kind: Worksheet, text: &[u8], entries: &mut [u32; ENTRIES]) -> Reading
+    ensures { λ r. ⌜ r ≡ shortReading kind (now (text .entry)) ⌝ }
+    ensures { λ r. ⌜ now (entries .exit)
+        ≡ keptUnlessRead (shortReading kind (now (text .entry))) (parsed (now (text .entry)) .entries) (now (entries .entry)) ⌝ }
 {
     let mut fresh = [0u32; ENTRIES];
     let mut places = [0usize; ENTRIES];
@@ -77,7 +79,7 @@ fn read_short(text: &[u8], entries: &mut [u32; ENTRIES]) -> Reading
     if let Found::Wrong(why, place) = found {
         return Reading::Misread(why, place);
     }
-    let answer = entries::judge(&fresh);
+    let answer = entries::judge(kind, &fresh);
     if let Answer::Refused(why, place) = answer {
         return Reading::Refused(why, place, fault_place(&places, why, place));
     }
@@ -86,12 +88,12 @@ fn read_short(text: &[u8], entries: &mut [u32; ENTRIES]) -> Reading
 }
 
 // The entries that a text writes, and the usual values for the others; only a text that reads well alters them.
-pub fn read(text: &[u8], entries: &mut [u32; ENTRIES]) -> Reading
-    ensures { λ r. ⌜ r ≡ reading (now (text .entry)) ⌝ }
-    ensures { λ r. ⌜ now (entries .exit) ≡ keptUnlessRead (reading (now (text .entry))) (parsed (now (text .entry)) .entries) (now (entries .entry)) ⌝ }
+pub fn read(kind: Worksheet, text: &[u8], entries: &mut [u32; ENTRIES]) -> Reading
+    ensures { λ r. ⌜ r ≡ reading kind (now (text .entry)) ⌝ }
+    ensures { λ r. ⌜ now (entries .exit) ≡ keptUnlessRead (reading kind (now (text .entry))) (parsed (now (text .entry)) .entries) (now (entries .entry)) ⌝ }
 {
     if TEXT_MOST < text.len() {
         return Reading::Misread(Trouble::TooLong, TEXT_MOST - text_scan::mark_size(text));
     }
-    read_short(text, entries)
+    read_short(kind, text, entries)
 }

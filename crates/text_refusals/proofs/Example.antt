@@ -29,7 +29,7 @@ range : answerText (No Range (approachPlace EB buttonNo)) ≡ ascii "R3: EB push
 unfolding ascii joined digits decimal numbered valueText kindAt classAt wordTable wordIn nameIn apartText spanText limitsText rangeText whyText refusalText
 range = refl
 
-shared : answerText (No Shared NB) ≡ ascii "R4: NB: a shared lane needs a through lane and no left lane beside it\n"
+shared : answerText (No Shared NB) ≡ ascii "R4: NB: a shared lane needs a through lane and no left lane beside it; a single point takes none\n"
 unfolding ascii joined digits decimal numbered wordTable wordIn nameIn whyText refusalText
 shared = refl
 

@@ -57,7 +57,7 @@ unfoldable pub whyText : Refusal → ℕ → List ℕ
 whyText Size place = ascii "the number of entries or cells is wrong\n"
 whyText Entry place = ascii "there is no such entry\n"
 whyText Range place = rangeText place
-whyText Shared place = nameIn (approachRow place) ++ ascii ": a shared lane needs a through lane and no left lane beside it\n"
+whyText Shared place = nameIn (approachRow place) ++ ascii ": a shared lane needs a through lane and no left lane beside it; a single point takes none\n"
 whyText NoLane place = nameIn place ++ ascii ": vehicles, and no lane that takes them\n"
 whyText File place = fileText place
 whyText Store place = outsideText (ascii "the storage") Storage

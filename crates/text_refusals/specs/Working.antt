@@ -18,7 +18,7 @@ limitsMost = apartMost + spanMost
 abbrev pub outsideMost : ℕ
 outsideMost = 12 + limitsMost
 
--- the longest sentence of a refusal, a shared lane's, has 82; the rest is room for another
+-- the longest sentence of a refusal, a shared lane's, has 109; the rest is spare
 abbrev pub whyMost : ℕ
 whyMost = 112
 

@@ -108,7 +108,7 @@ fn put_why(out: &mut [u8], at: usize, why: Refusal, place: u32) -> usize
             out,
             at,
             approach_row(place),
-            b": a shared lane needs a through lane and no left lane beside it\n",
+            b": a shared lane needs a through lane and no left lane beside it; a single point takes none\n",
         ),
         Refusal::NoLane => text_phrases::put_named(
             out,

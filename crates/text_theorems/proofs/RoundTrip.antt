@@ -11,12 +11,13 @@ use borrow.Author.Tests.{eqb-true, ne-eqb, not-true, ltb-true, le-ltb}
 use native.Mathlib.Nat.{add-zero, zero-add}
 use native.Mathlib.Numerals.{add-one}
 use native.Mathlib.Omega.{arith}
+use Rattle.layout.specs.declared.Worksheet.{Worksheet}
 use Rattle.layout.specs.Entries.{entryCount}
 use Rattle.lists.specs.Lists.{AllBelow, table}
 use Rattle.lists.proofs.Laws.{length-table, table-at, filled-more, filled-all}
 use Rattle.lists.proofs.Tests.{holds-below, both-true, at-each}
 use Rattle.answers.specs.declared.Answer.the-variants.{Accepted}
-use Rattle.entries.specs.Judging.{judged}
+use Rattle.entries.specs.Judging.{judgedFor}
 use Rattle.kinds.specs.Kinds.{kindAt}
 use Rattle.text.specs.Text.{ascii, joined}
 use Rattle.text_numbers.specs.Numbers.{tooLarge}
@@ -279,11 +280,11 @@ module _ (e : List ℕ) (size : length e ≡ entryCount) (fits : AllBelow (2 ^ 3
   pub reads-well : parsed (junctionText e) .reader ≡ stands (junction .title) entryCount
   reads-well = rw parsed-back
 
-  -- so the text of acceptable entries is read, and leaves them
-  pub read-back : judged e ≡ Accepted → reading (junctionText e) ≡ Read
+  -- so the text of entries that are acceptable for a sheet of a kind is read for that kind, and leaves them
+  pub read-back : (k : Worksheet) → judgedFor k e ≡ Accepted → reading k (junctionText e) ≡ Read
   unfolding reading shortReading
-  read-back good = rw (le-ltb textMost (length (junctionText e)) (omega (arith, length-entryTexts e entryCount)), parsed-back, good)
+  read-back k good = rw (le-ltb textMost (length (junctionText e)) (omega (arith, length-entryTexts e entryCount)), parsed-back, good)
 
-  pub left-back : (old : List ℕ) → judged e ≡ Accepted
-      → keptUnlessRead (reading (junctionText e)) (parsed (junctionText e) .entries) old ≡ e
-  left-back old good = rw (read-back good, entries-back)
+  pub left-back : (k : Worksheet) (old : List ℕ) → judgedFor k e ≡ Accepted
+      → keptUnlessRead (reading k (junctionText e)) (parsed (junctionText e) .entries) old ≡ e
+  left-back k old good = rw (read-back k good, entries-back)

@@ -1,5 +1,6 @@
 // Fills each junction of standard input, a block of a study file each, and prints the cells that were worked out.
 use answers::Answer;
+use layout::Worksheet;
 use libc::STDOUT_FILENO;
 
 // Where the rows begin that follow another of the same kind.
@@ -69,7 +70,7 @@ fn print_junction(block: &[u8]) {
     let mut entries = [0u32; layout::ENTRIES];
     study::entries_of(block, &mut entries);
     let mut cells = [0u32; layout::CELLS];
-    match sheet::fill(&entries, &mut cells) {
+    match sheet::fill(Worksheet::Junction, &entries, &mut cells) {
         Answer::Accepted => print_sheet(cells),
         Answer::Refused(why, place) => print_refusal(why.number(), place),
     }

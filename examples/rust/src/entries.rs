@@ -1,5 +1,6 @@
-//! The 93 entries of a junction, by name.
+//! The 93 entries of a junction or a single point interchange, by name.
 
+use crate::sys;
 use std::fmt;
 
 #[derive(Clone, Copy, Debug, PartialEq, Eq, Hash)]
@@ -153,7 +154,7 @@ impl fmt::Display for LaneFactor {
     }
 }
 
-/// The entries of one junction, judged when a sheet is filled from them.
+/// The entries of one junction or single point interchange, judged when a sheet is filled from them.
 #[derive(Clone, Debug, PartialEq, Eq)]
 pub struct Entries([u32; Entries::COUNT]);
 
@@ -163,6 +164,14 @@ impl Entries {
     /// All entries 0; ideal flows and the cycle must be set before a fill accepts them. Lane factors are the table's.
     pub fn new() -> Entries {
         Entries([0; Entries::COUNT])
+    }
+
+    /// What a single point interchange starts from: ideal flows of 2,000, lost times of 8,000 ms for lefts and 6,000 ms for the
+    /// rest, a cycle of 120 s, and all else 0. A fill accepts them.
+    pub fn point_start() -> Entries {
+        let mut numbers = [0; Entries::COUNT];
+        sys::point_start(&mut numbers).expect("only another length is refused");
+        Entries(numbers)
     }
 
     pub fn get(&self, entry: Entry) -> u32 {

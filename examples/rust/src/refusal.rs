@@ -12,7 +12,8 @@ pub enum Refusal {
     Entry,
     /// The first entry that is outside its range.
     Range(Entry),
-    /// The first approach that has a shared lane and left lanes, or no through lane to share.
+    /// The first approach that has a shared lane and left lanes, or no through lane to share; of a single point, the first that has
+    /// a shared lane at all.
     Shared(Approach),
     /// The first movement that has volume and no lane to use.
     NoLane(Approach, Turn),
@@ -62,7 +63,7 @@ impl fmt::Display for Refusal {
             Refusal::Shared(approach) => {
                 write!(
                     f,
-                    "{approach:?} has a shared lane with left lanes or no through lane"
+                    "{approach:?} has a shared lane with left lanes, with no through lane, or at a single point"
                 )
             }
             Refusal::NoLane(approach, turn) => {

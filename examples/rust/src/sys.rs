@@ -17,6 +17,14 @@ extern "C" {
         sheet_len: usize,
     ) -> IcuAnswer;
     fn icu_amend(sheet: *mut u32, len: usize, entry: u32, value: u32) -> IcuAnswer;
+    fn icu_point_start(entries: *mut u32, len: usize) -> IcuAnswer;
+    fn icu_point_fill(
+        entries: *const u32,
+        entries_len: usize,
+        sheet: *mut u32,
+        sheet_len: usize,
+    ) -> IcuAnswer;
+    fn icu_point_amend(sheet: *mut u32, len: usize, entry: u32, value: u32) -> IcuAnswer;
     fn icu_diamond(
         record: *const u32,
         record_len: usize,
@@ -94,6 +102,22 @@ pub fn fill(entries: &[u32], sheet: &mut [u32]) -> Result<(), Refusal> {
 pub fn amend(sheet: &mut [u32], entry: u32, value: u32) -> Result<(), Refusal> {
     // SAFETY: the list is live for the call and of the length given.
     result(unsafe { icu_amend(sheet.as_mut_ptr(), sheet.len(), entry, value) })
+}
+
+pub fn point_start(entries: &mut [u32]) -> Result<(), Refusal> {
+    // SAFETY: the list is live for the call and of the length given.
+    result(unsafe { icu_point_start(entries.as_mut_ptr(), entries.len()) })
+}
+
+pub fn point_fill(entries: &[u32], sheet: &mut [u32]) -> Result<(), Refusal> {
+    let (cells, len) = (sheet.as_mut_ptr(), sheet.len());
+    // SAFETY: both lists are live for the call, of the lengths given, and do not overlap.
+    result(unsafe { icu_point_fill(entries.as_ptr(), entries.len(), cells, len) })
+}
+
+pub fn point_amend(sheet: &mut [u32], entry: u32, value: u32) -> Result<(), Refusal> {
+    // SAFETY: the list is live for the call and of the length given.
+    result(unsafe { icu_point_amend(sheet.as_mut_ptr(), sheet.len(), entry, value) })
 }
 
 /// Gives the number and the place of a refusal, whose places are of two junctions.

@@ -1,13 +1,15 @@
 //! One check for each of the library's calls: both get the same input, lent between canaries,
 //! and must give the same answer and leave every number the same.
 
-#[cfg(feature = "amend")]
+#[cfg(any(feature = "amend", feature = "point"))]
 mod amend;
 #[cfg(feature = "diamond")]
 mod diamond;
 mod fill;
 #[cfg(feature = "open")]
 mod open;
+#[cfg(feature = "point")]
+mod point;
 #[cfg(feature = "study")]
 mod study;
 
@@ -38,6 +40,16 @@ pub const CHECKS: &[(&str, usize, Check)] = &[
     ("diamond", 8, diamond::diamond),
     #[cfg(feature = "open")]
     ("open", 1, open::run_of_offices),
+    #[cfg(feature = "point")]
+    ("point", 8, point::fill),
+    #[cfg(feature = "point")]
+    ("point", 6, point::amend),
+    #[cfg(feature = "point")]
+    ("point", 2, point::repair),
+    #[cfg(feature = "point")]
+    ("point", 1, point::run_of_amendments),
+    #[cfg(feature = "point")]
+    ("point", 1, point::start),
 ];
 
 /// A list that a call only reads must come back as it was.

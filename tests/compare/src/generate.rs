@@ -3,9 +3,11 @@
 
 pub mod diamond;
 pub mod open;
+pub mod point;
 
 use crate::rules::{self, approach_entry, decay, kind_of, movement_entry, place_today, BY_TABLE};
-use crate::rules::{CELLS, CYCLE, ENTRIES, FACTOR, LAST, LIMITS, OLD_ENTRIES, OLD_SITES, PAIRS, SITES};
+use crate::rules::{Answer, CELLS, CYCLE, ENTRIES, FACTOR, LAST, LIMITS};
+use crate::rules::{OLD_ENTRIES, OLD_SITES, PAIRS, SITES};
 use std::sync::OnceLock;
 
 /// A small generator of well mixed numbers, the same run for the same seed.
@@ -48,6 +50,23 @@ impl Rng {
 
 pub type Entries = [u32; ENTRIES];
 pub type Sheet = [u32; CELLS];
+
+/// A kind of sheet: how many cells it has, entries that it takes and that it nearly takes, its calls by the plain rules.
+pub struct Kind {
+    pub cells: usize,
+    pub acceptable: fn(&mut Rng) -> Entries,
+    pub nearly: fn(&mut Rng) -> Entries,
+    pub fill: fn(&[u32], &mut [u32]) -> Answer,
+    pub amend: fn(&mut [u32], u32, u32) -> Answer,
+}
+
+pub const JUNCTION: Kind = Kind {
+    cells: CELLS,
+    acceptable,
+    nearly,
+    fill: rules::fill,
+    amend: rules::amend,
+};
 
 // ---------------------------------------------------------------- junctions
 
@@ -419,7 +438,8 @@ pub fn any_numbers(rng: &mut Rng, length: usize) -> Vec<u32> {
 /// A length around those that matter.
 pub fn any_length(rng: &mut Rng) -> usize {
     let corners = [
-        0, 1, 80, 81, 82, 92, 93, 94, 185, 186, 187, 205, 209, 213, 220, 221, 222, 279, 442,
+        0, 1, 80, 81, 82, 92, 93, 94, 165, 167, 174, 175, 176, 185, 186, 187, 205, 209, 213, 220, 221, 222,
+        279, 350, 442,
     ];
     match rng.once_in(4) {
         true => rng.below(500),
@@ -427,14 +447,14 @@ pub fn any_length(rng: &mut Rng) -> usize {
     }
 }
 
-/// Entries of any length: mostly acceptable junctions, then spoilt ones, then anything.
-pub fn any_entries(rng: &mut Rng) -> Vec<u32> {
+/// Entries of any length: mostly acceptable ones, then spoilt ones, then anything.
+pub fn any_entries(rng: &mut Rng, kind: &Kind) -> Vec<u32> {
     match rng.below(12) {
-        0..=5 => acceptable(rng).to_vec(),
-        6..=8 => nearly(rng).to_vec(),
+        0..=5 => (kind.acceptable)(rng).to_vec(),
+        6..=8 => (kind.nearly)(rng).to_vec(),
         9 => any_numbers(rng, ENTRIES),
         10 => {
-            let mut e = acceptable(rng).to_vec();
+            let mut e = (kind.acceptable)(rng).to_vec();
             e.resize(any_length(rng), 0);
             e
         }
@@ -447,10 +467,10 @@ pub fn any_entries(rng: &mut Rng) -> Vec<u32> {
 
 // ---------------------------------------------------------------- sheets and amendments
 
-/// The sheet of an acceptable junction as a fill leaves it.
-pub fn filled(rng: &mut Rng) -> Sheet {
-    let mut sheet = [0; CELLS];
-    rules::fill(&acceptable(rng), &mut sheet);
+/// The sheet of acceptable entries as a fill leaves it.
+fn filled(rng: &mut Rng, kind: &Kind) -> Vec<u32> {
+    let mut sheet = vec![0; kind.cells];
+    (kind.fill)(&(kind.acceptable)(rng), &mut sheet);
     sheet
 }
 
@@ -469,7 +489,7 @@ pub fn amendment(rng: &mut Rng) -> (u32, u32) {
     };
     match rng.once_in(25) {
         true => (
-            rng.pick(&[93, 94, 185, 220, 221, u32::MAX, u32::MAX - 92]),
+            rng.pick(&[93, 94, 174, 175, 185, 220, 221, u32::MAX, u32::MAX - 92]),
             value,
         ),
         false => (entry, value),
@@ -477,51 +497,56 @@ pub fn amendment(rng: &mut Rng) -> (u32, u32) {
 }
 
 /// A sheet whose entries an amendment may judge and whose other cells hold anything.
-fn rubbish(rng: &mut Rng) -> Vec<u32> {
-    let mut sheet = any_numbers(rng, CELLS);
+fn rubbish(rng: &mut Rng, kind: &Kind) -> Vec<u32> {
+    let mut sheet = any_numbers(rng, kind.cells);
     let entries = match rng.below(4) {
-        0 => nearly(rng),
-        _ => acceptable(rng),
+        0 => (kind.nearly)(rng),
+        _ => (kind.acceptable)(rng),
     };
     sheet[..ENTRIES].copy_from_slice(&entries);
     sheet
 }
 
 /// A sheet that has been filled and amended and then had some cells scribbled over.
-fn worn(rng: &mut Rng) -> Vec<u32> {
-    let mut sheet = filled(rng).to_vec();
+fn worn(rng: &mut Rng, kind: &Kind) -> Vec<u32> {
+    let mut sheet = filled(rng, kind);
     for _ in 0..rng.below(6) {
         let (entry, value) = amendment(rng);
-        rules::amend(&mut sheet, entry, value);
+        (kind.amend)(&mut sheet, entry, value);
     }
     for _ in 0..rng.below(4) {
-        let at = rng.within(ENTRIES as u32, CELLS as u32 - 1) as usize;
+        let at = ENTRIES + rng.below(kind.cells - ENTRIES);
         sheet[at] = any_number(rng);
     }
     sheet
 }
 
 /// A sheet of any history, now and then of the wrong length.
-pub fn any_sheet(rng: &mut Rng) -> Vec<u32> {
+pub fn any_sheet(rng: &mut Rng, kind: &Kind) -> Vec<u32> {
     match rng.below(16) {
-        0..=5 => filled(rng).to_vec(),
-        6..=9 => worn(rng),
-        10..=13 => rubbish(rng),
-        14 => any_numbers(rng, CELLS),
+        0..=5 => filled(rng, kind),
+        6..=9 => worn(rng, kind),
+        10..=13 => rubbish(rng, kind),
+        14 => any_numbers(rng, kind.cells),
         _ => {
-            let mut sheet = filled(rng).to_vec();
+            let mut sheet = filled(rng, kind);
             sheet.resize(any_length(rng), 0);
             sheet
         }
     }
 }
 
-/// A sheet with one entry out of range, and the amendment that puts it right.
-pub fn repairable(rng: &mut Rng) -> (Vec<u32>, u32, u32) {
-    let mut sheet = rubbish(rng);
-    let entry = rng.below(ENTRIES);
+/// A sheet with one wrong entry, mostly out of range, and the amendment that puts it right.
+pub fn repairable(rng: &mut Rng, kind: &Kind) -> (Vec<u32>, u32, u32) {
+    let mut sheet = rubbish(rng, kind);
+    // A shared lane may be in range and wrong all the same.
+    let shared = rng.once_in(4);
+    let entry = match shared {
+        true => approach_entry(rng.below(4), 0),
+        false => rng.below(ENTRIES),
+    };
     let good = sheet[entry];
-    sheet[entry] = any_number(rng);
+    sheet[entry] = if shared { 1 } else { any_number(rng) };
     (sheet, entry as u32, good)
 }
 

@@ -7,4 +7,5 @@ pub mod generate;
 #[allow(unsafe_code)]
 pub mod library;
 pub mod open;
+pub mod point;
 pub mod rules;

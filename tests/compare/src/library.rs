@@ -66,6 +66,18 @@ extern "C" {
     ) -> IcuAnswer;
 }
 
+#[cfg(feature = "point")]
+extern "C" {
+    fn icu_point_start(entries: *mut u32, len: usize) -> IcuAnswer;
+    fn icu_point_fill(
+        entries: *const u32,
+        entries_len: usize,
+        sheet: *mut u32,
+        sheet_len: usize,
+    ) -> IcuAnswer;
+    fn icu_point_amend(sheet: *mut u32, len: usize, entry: u32, value: u32) -> IcuAnswer;
+}
+
 #[cfg(feature = "decay")]
 extern "C" {
     fn icu_decay_number(m: u64) -> u64;
@@ -162,6 +174,25 @@ pub fn diamond(record: &[u32], cells: &mut [u32]) -> Answer {
     let (list, len) = (cells.as_mut_ptr(), cells.len());
     // SAFETY: both lists are live for the call, of the lengths given, and do not overlap.
     unsafe { icu_diamond(record.as_ptr(), record.len(), list, len) }.into()
+}
+
+#[cfg(feature = "point")]
+pub fn point_start(entries: &mut [u32]) -> Answer {
+    // SAFETY: the list is live for the call and of the length given.
+    unsafe { icu_point_start(entries.as_mut_ptr(), entries.len()) }.into()
+}
+
+#[cfg(feature = "point")]
+pub fn point_fill(entries: &[u32], sheet: &mut [u32]) -> Answer {
+    let (cells, len) = (sheet.as_mut_ptr(), sheet.len());
+    // SAFETY: both lists are live for the call, of the lengths given, and do not overlap.
+    unsafe { icu_point_fill(entries.as_ptr(), entries.len(), cells, len) }.into()
+}
+
+#[cfg(feature = "point")]
+pub fn point_amend(sheet: &mut [u32], entry: u32, value: u32) -> Answer {
+    // SAFETY: the list is live for the call and of the length given.
+    unsafe { icu_point_amend(sheet.as_mut_ptr(), sheet.len(), entry, value) }.into()
 }
 
 #[cfg(feature = "decay")]

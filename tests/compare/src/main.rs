@@ -1,5 +1,5 @@
 //! Compares the library with the plain rules on pseudo-random inputs:
-//! `compare N [SEED] [fill] [amend] [study] [diamond] [open]`, all the calls built in where none is named.
+//! `compare N [SEED] [fill] [amend] [study] [diamond] [open] [point]`, all the calls built in where none is named.
 
 #![forbid(unsafe_code)]
 
@@ -13,7 +13,7 @@ use report::Tally;
 use std::process::ExitCode;
 use std::time::{SystemTime, UNIX_EPOCH};
 
-const CALLS: [&str; 5] = ["fill", "amend", "study", "diamond", "open"];
+const CALLS: [&str; 6] = ["fill", "amend", "study", "diamond", "open", "point"];
 
 struct Wish {
     inputs: u64,
@@ -54,7 +54,7 @@ fn chosen(words: &[String]) -> Vec<Check> {
 
 fn main() -> ExitCode {
     let Some(wish) = wish() else {
-        eprintln!("usage: compare N [SEED] [fill] [amend] [study] [diamond] [open]");
+        eprintln!("usage: compare N [SEED] [fill] [amend] [study] [diamond] [open] [point]");
         return ExitCode::from(2);
     };
     let checks = chosen(&wish.words);

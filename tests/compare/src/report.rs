@@ -3,9 +3,9 @@
 use crate::lent::{Canary, Lent};
 use compare::generate::picks;
 use compare::rules::{self, Answer, ACCEPTED, BLANK, ENTRIES, FIRST_LINE, LAST, LINES, PAIRS};
-use compare::rules::{approach_entry, movement_entry, BY_TABLE, CYCLE, FACTOR, SITES};
+use compare::rules::{approach_entry, kind_of, movement_entry, BY_TABLE, CYCLE, FACTOR, SITES};
 use compare::rules::{NOLANE, RANGE, SHARED};
-use compare::{diamond, open};
+use compare::{diamond, open, point};
 use std::collections::BTreeMap;
 use std::fmt::{Debug, Write};
 
@@ -14,6 +14,9 @@ const NAMES: [&str; 11] = [
     "FULL",
 ];
 const APPROACHES: [&str; 4] = ["EB", "WB", "NB", "SB"];
+const LAST_EIGHT: [&str; 8] = [
+    "EBR", "WBR", "NBR", "SBR", "combined", "required", "ICU", "letter",
+];
 
 /// How often each answer, and each turn of the rules, came up.
 #[derive(Default)]
@@ -27,6 +30,7 @@ pub struct Tally {
     studies: Studies,
     diamonds: Diamonds,
     opens: Opens,
+    points: Points,
 }
 
 /// Lane factors that were measured, by the lanes that they were measured of; shared lanes whose lefts' factor decides.
@@ -67,6 +71,19 @@ struct Opens {
     strange: [u64; 4],
     mended: u64,
     read: [u64; 2],
+}
+
+/// The turns that single points took.
+#[derive(Default)]
+struct Points {
+    letters: [u64; 8],
+    decided: [u64; 3],
+    rights: [u64; 4],
+    ties: [u64; 3],
+    crossed: u64,
+    junctions: [u64; 2],
+    shared_alone: u64,
+    typed_off: u64,
 }
 
 impl Tally {
@@ -196,6 +213,73 @@ impl Tally {
         self.opens.read[usize::from(changed)] += 1;
     }
 
+    /// Counts the turns that a single point took; one that is refused for a lane that its junction may share.
+    #[cfg_attr(not(feature = "point"), allow(dead_code))]
+    pub fn point(&mut self, entries: &[u32], answer: Answer, sheet: &[u32]) {
+        match answer.number {
+            0 => self.filled_point(sheet),
+            SHARED => self.points.shared_alone += u64::from(rules::judge(entries) == ACCEPTED),
+            _ => {}
+        }
+    }
+
+    fn filled_point(&mut self, sheet: &[u32]) {
+        let counts = &mut self.points;
+        let last = &sheet[point::LAST..];
+        let (combined, required) = (last[4], last[5]);
+        counts.letters[last[7] as usize & 7] += 1;
+        match (0..4).find(|&a| last[a] == required && required > combined) {
+            None => counts.decided[0] += 1,
+            Some(a) => {
+                let free = sheet[approach_entry(a, 4)] == 1;
+                counts.decided[1 + usize::from(free)] += 1;
+                counts.rights[a] += 1;
+            }
+        }
+        let longest = last[..4].iter().copied().max().unwrap_or(0);
+        let apart = i64::from(longest) - i64::from(combined);
+        if longest > 0 && apart.abs() <= 1 {
+            counts.ties[(1 + apart) as usize] += 1;
+        }
+        let line = |a: usize, k: usize| sheet[point::FIRST_LINE + point::LINES * a + k - 1];
+        let crossed = |a: &usize| line(*a, 2) == 0 && line(*a, 17) > 0;
+        counts.crossed += (0..4).filter(crossed).count() as u64;
+        let mut junction = [0; rules::CELLS];
+        if rules::fill(&sheet[..ENTRIES], &mut junction) == ACCEPTED {
+            counts.junctions[usize::from(picks(&junction) != [0, 0])] += 1;
+        }
+    }
+
+    /// Counts a shared lane that was typed off.
+    #[cfg_attr(not(feature = "point"), allow(dead_code))]
+    pub fn point_amended(&mut self, before: &[u32], (entry, value): (u32, u32), answer: Answer) {
+        const SHARED_LANE: usize = 6;
+        let entry = entry as usize;
+        let off = answer == ACCEPTED && kind_of(entry) == SHARED_LANE && value == 0;
+        self.points.typed_off += u64::from(off && before[entry] == 1);
+    }
+
+    fn print_points(&self) {
+        let counts = &self.points;
+        println!("single points' letters A to H: {:?}", counts.letters);
+        println!(
+            "decided by combined, a right that waits, a free one: {:?}; by EBR, WBR, NBR, SBR: {:?}",
+            counts.decided, counts.rights
+        );
+        println!(
+            "longest right 1 ms less than combined, as long, 1 ms more: {:?}; crossed with nobody going through: {}",
+            counts.ties, counts.crossed
+        );
+        println!(
+            "junctions of the same entries protected throughout, otherwise: {:?}",
+            counts.junctions
+        );
+        println!(
+            "SHARED for a lane that a junction may share: {}; shared lanes typed off: {}",
+            counts.shared_alone, counts.typed_off
+        );
+    }
+
     fn print_opens(&self) {
         let counts = &self.opens;
         println!(
@@ -272,6 +356,9 @@ impl Tally {
         if self.opens.read.iter().sum::<u64>() > 0 {
             self.print_opens();
         }
+        if self.points.decided.iter().sum::<u64>() > 0 {
+            self.print_points();
+        }
     }
 }
 
@@ -288,14 +375,31 @@ pub fn cell_name(at: usize) -> String {
             let pair = ["EB-WB", "NB-SB"][(at - PAIRS) / 4];
             format!("{pair} {}", cells[(at - PAIRS) % 4])
         }
-        _ => {
-            let cells = [
-                "EBR", "WBR", "NBR", "SBR", "combined", "required", "ICU", "letter",
-            ];
-            cells
-                .get(at - LAST)
-                .map_or_else(|| format!("cell {at}"), |cell| cell.to_string())
+        _ => last_name(at, LAST),
+    }
+}
+
+/// What one of the last eight is.
+fn last_name(at: usize, last: usize) -> String {
+    LAST_EIGHT
+        .get(at - last)
+        .map_or_else(|| format!("cell {at}"), |cell| cell.to_string())
+}
+
+/// What a cell of a single point's sheet is.
+#[cfg_attr(not(feature = "point"), allow(dead_code))]
+pub fn point_cell(at: usize) -> String {
+    match at {
+        0..point::FIRST_LINE => format!("entry {at}"),
+        point::FIRST_LINE..point::TOTALS => {
+            let line = at - point::FIRST_LINE;
+            let (a, k) = (line / point::LINES, line % point::LINES + 1);
+            format!("{} line {k}", APPROACHES[a])
         }
+        point::TOTALS..point::LAST => {
+            format!("{} protected", ["EB-WB", "NB-SB"][at - point::TOTALS])
+        }
+        _ => last_name(at, point::LAST),
     }
 }
 
@@ -333,6 +437,7 @@ pub fn block_entry(at: usize) -> String {
 }
 
 /// The text of a difference, or nothing where the two outcomes agree.
+#[cfg_attr(not(feature = "study"), allow(dead_code))]
 pub fn compare<T: Canary + Debug>(
     input: &dyn Fn() -> String,
     ours: (Answer, &Lent<T>),

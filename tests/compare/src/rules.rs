@@ -2,7 +2,7 @@
 //! Numbers are worked out in 64 bits, where nothing in an acceptable junction overflows.
 //! Where flows count, UNIT says how many of a flow's units are one vehicle per hour: 10 as the rules read now, 1 as they read
 //! before; it divides 10,000.
-//! What fills and interchanges share is `inline(always)`: left to the compiler, two callers cost a fill half its time again; and
+//! What fills, single points and interchanges share is `inline(always)`: left to the compiler, two callers cost a fill half its time again; and
 //! so is what a function with a UNIT calls once, which the compiler would otherwise keep apart, a tenth of a fill's time.
 
 pub const BLANK: u32 = u32::MAX;
@@ -13,6 +13,8 @@ pub const MOVEMENT: usize = 6;
 pub const OWN: usize = 72;
 pub const CYCLE: usize = 92;
 pub const LINES: usize = 28;
+/// The first lines, all that protected phasing goes by.
+pub const PROTECTED_LINES: usize = 18;
 /// The most sites of a study file, and of one from before lane factors were measured; the entries of a site then.
 pub const SITES: usize = 165;
 pub const OLD_SITES: usize = 180;
@@ -106,8 +108,23 @@ fn out_of_range(entries: &[u32; ENTRIES], i: usize) -> bool {
     (entries[i].wrapping_sub(LOW[i]) > SPAN[i]) & (entries[i] != BESIDES[i])
 }
 
+/// A junction's shared lane takes the place of left lanes, in a through lane.
+fn badly_shared(entries: &[u32; ENTRIES], a: usize) -> bool {
+    let lanes = |turn: usize| entries[movement_entry(a, turn, 0)];
+    entries[approach_entry(a, 0)] == 1 && (lanes(0) > 0 || lanes(1) == 0)
+}
+
 /// SIZE, RANGE, SHARED, NOLANE in this order, each at its lowest place.
 pub fn judge(entries: &[u32]) -> Answer {
+    judge_sharing(entries, badly_shared)
+}
+
+/// The same, with the approaches whose shared lane is refused.
+#[inline(always)]
+pub(crate) fn judge_sharing(
+    entries: &[u32],
+    badly_shared: impl Fn(&[u32; ENTRIES], usize) -> bool,
+) -> Answer {
     let Ok(entries) = <&[u32; ENTRIES]>::try_from(entries) else {
         return refused(SIZE, 0);
     };
@@ -117,8 +134,7 @@ pub fn judge(entries: &[u32]) -> Answer {
         return refused(RANGE, place.unwrap_or(0) as u32);
     }
     for a in 0..4 {
-        let lanes = |turn: usize| entries[movement_entry(a, turn, 0)];
-        if entries[approach_entry(a, 0)] == 1 && (lanes(0) > 0 || lanes(1) == 0) {
+        if badly_shared(entries, a) {
             return refused(SHARED, a as u32);
         }
     }
@@ -461,7 +477,7 @@ fn adjusted(x: &Movement, volume: u64, reference: u64) -> u64 {
 
 /// Lines 1 to 18.
 #[inline(always)]
-fn first_lines<const UNIT: u64>(x: &Own, cycle: u64, line: &mut [u32; LINES]) {
+fn first_lines<const UNIT: u64>(x: &Own, cycle: u64, line: &mut [u32]) {
     let (e, v, f, w) = (&x.entries, &x.volumes, &x.flows, &x.walking);
     let left = green::<UNIT>(v.left, cycle, f.left);
     let through = x.reference_through;
@@ -498,12 +514,20 @@ fn first_lines<const UNIT: u64>(x: &Own, cycle: u64, line: &mut [u32; LINES]) {
     }
 }
 
-/// Lines 16 to 18 of one approach, of entries already found acceptable.
-pub(crate) fn adjusted_lines(entries: &[u32; ENTRIES], a: usize) -> [u32; 3] {
+/// Lines 1 to 18 of one approach, of entries already found acceptable, at the front of those there is room for. Single points and
+/// interchanges ask for unlike rooms: with one for both, an interchange takes an eighth of its time more.
+#[inline(always)]
+pub(crate) fn protected_lines<const ROOM: usize>(entries: &[u32; ENTRIES], a: usize) -> [u32; ROOM] {
     let cycle = u64::from(entries[CYCLE]);
-    let mut line = [0; LINES];
+    let mut line = [0; ROOM];
     let own = own::<FLOW_UNIT>(entries, a, cycle);
     first_lines::<FLOW_UNIT>(&own, cycle, &mut line);
+    line
+}
+
+/// Lines 16 to 18 of it.
+pub(crate) fn adjusted_lines(entries: &[u32; ENTRIES], a: usize) -> [u32; 3] {
+    let line = protected_lines::<LINES>(entries, a);
     [line[15], line[16], line[17]]
 }
 
@@ -650,7 +674,7 @@ fn left_time(line: &[u32; LINES], picked: u32) -> u32 {
 }
 
 /// The approach whose through crosses each right turn's way out.
-const CROSS: [usize; 4] = [3, 2, 0, 1];
+pub(crate) const CROSS: [usize; 4] = [3, 2, 0, 1];
 const LETTER_ENDS: [u32; 7] = [550, 640, 730, 820, 910, 1_000, 1_090];
 
 pub fn letter(icu: u32) -> u32 {
@@ -731,7 +755,7 @@ pub fn fill(entries: &[u32], sheet: &mut [u32]) -> Answer {
 }
 
 /// A set of an approach's lines, bit k−1 for line k.
-const fn lines(first: u32, last: u32) -> u32 {
+pub(crate) const fn lines(first: u32, last: u32) -> u32 {
     (1 << last) - (1 << (first - 1))
 }
 
@@ -740,7 +764,7 @@ const ADJUSTED: u32 = lines(16, 18) | lines(26, 26) | lines(28, 28);
 const WALKERS: u32 = lines(10, 12) | lines(14, 15) | lines(17, 18) | lines(23, 28);
 const WALK_TIME: u32 = lines(17, 17) | lines(26, 26) | lines(28, 28);
 /// Own lines reached by an amendment, by the entry's kind, the cycle apart.
-const REACHED: [u32; KINDS - 1] = [
+pub(crate) const REACHED: [u32; KINDS - 1] = [
     ALL,
     ALL,
     ALL,
@@ -753,7 +777,15 @@ const REACHED: [u32; KINDS - 1] = [
     WALK_TIME,
     0,
 ];
-const FREE_RIGHT: usize = 10;
+pub(crate) const FREE_RIGHT: usize = 10;
+
+/// The approach of an entry, the cycle apart.
+pub(crate) const fn approach_of(entry: usize) -> usize {
+    match entry {
+        0..OWN => entry / (3 * MOVEMENT),
+        _ => (entry - OWN) / 5,
+    }
+}
 
 fn copy_lines(sheet: &mut [u32; CELLS], fresh: &[u32; CELLS], a: usize, set: u32) {
     let at = FIRST_LINE + LINES * a;
@@ -774,12 +806,7 @@ fn copy_reached(sheet: &mut [u32; CELLS], fresh: &[u32; CELLS], entry: usize) {
         sheet[FIRST_LINE..].copy_from_slice(&fresh[FIRST_LINE..]);
         return;
     }
-    let kind = kind_of(entry);
-    let a = if entry < OWN {
-        entry / (3 * MOVEMENT)
-    } else {
-        (entry - OWN) / 5
-    };
+    let (kind, a) = (kind_of(entry), approach_of(entry));
     copy_lines(sheet, fresh, a, REACHED[kind]);
     if REACHED[kind] == ALL {
         copy_lines(sheet, fresh, a ^ 1, lines(21, 26));

@@ -1,9 +1,10 @@
-//! Every figure the paper gives for K1 to K10, its listing, the book's third example, bus gates, measured lane
-//! factors, study files of both kinds and two offices' steps in one study, against the plain rules.
+//! Every figure the paper gives for K1 to K10, its listing, the book's third and fourth examples, bus gates, measured
+//! lane factors, study files of both kinds and two offices' steps in one study, against the plain rules.
 
-use compare::generate::{laid_out, laid_out_before};
+use compare::generate::point::{acceptable_point, nearly_point};
+use compare::generate::{amendment, laid_out, laid_out_before, Rng};
 use compare::rules::*;
-use compare::{diamond, open};
+use compare::{diamond, open, point};
 
 fn k1() -> [u32; ENTRIES] {
     let mut e = [0; ENTRIES];
@@ -555,4 +556,249 @@ fn refused_in_order() {
     assert_eq!(study.add(1, &k1()), (SIZE, 0));
     assert_eq!(study.amend(9, 0, 93, 0), (SIZE, 0));
     assert_eq!(study.read(9, 0), Err((SIZE, 0)));
+}
+
+/// The book's fourth example; of its free rights those that line 27 shows.
+fn example_4() -> [u32; ENTRIES] {
+    let mut e = point::START;
+    put_leg(&mut e, 0, [(2, 500), (3, 2_200), (1, 300)]);
+    put_leg(&mut e, 1, [(2, 700), (3, 1_500), (1, 800)]);
+    put_leg(&mut e, 2, [(2, 800), (0, 0), (1, 200)]);
+    put_leg(&mut e, 3, [(2, 900), (0, 0), (2, 800)]);
+    (0..12).for_each(|m| e[6 * m + 4] = 8_000);
+    e[72..92].copy_from_slice(&[
+        0, 12, 1, 24_000, 1, 0, 0, 1, 24_000, 0, 0, 0, 0, 20_000, 0, 0, 0, 0, 20_000, 1,
+    ]);
+    e
+}
+
+fn point_sheet(e: &[u32]) -> point::Sheet {
+    let mut s = [0; point::CELLS];
+    assert_eq!(point::fill(e, &mut s), ACCEPTED);
+    s
+}
+
+fn point_lines(s: &point::Sheet, a: usize, which: &[usize]) -> Vec<u32> {
+    which.iter().map(|k| s[93 + 18 * a + k - 1]).collect()
+}
+
+#[test]
+fn the_books_fourth_example() {
+    let s = point_sheet(&example_4());
+    let flows = [5, 6, 7, 8, 9];
+    assert_eq!(point_lines(&s, 0, &flows), [36_898, 54_480, 17_000, 54_480, 36_898]);
+    assert_eq!(point_lines(&s, 3, &flows), [36_898, 0, 30_090, 0, 36_898]);
+    // the book works out EBR's interference, and leaves it out of its time
+    assert_eq!(point_lines(&s, 0, &[10, 11, 12]), [1_469, 0, 3_297]);
+    for (a, times) in [
+        [16_262, 48_459, 22_646, 24_262, 54_459, 28_646],
+        [22_766, 33_040, 56_471, 30_766, 39_040, 62_471],
+        [26_018, 0, 14_118, 34_018, 0, 20_118],
+        [29_270, 0, 31_905, 37_270, 0, 37_905],
+    ]
+    .into_iter()
+    .enumerate()
+    {
+        assert_eq!(point_lines(&s, a, &[13, 14, 15, 16, 17, 18]), times);
+    }
+    assert_eq!(s[165..167], [85_225, 37_270]);
+    assert_eq!(s[167..171], [28_646, 86_733, 111_847, 37_905]);
+    assert_eq!(s[171..], [122_495, 122_495, 1_021, 6]);
+}
+
+#[test]
+fn starting_entries() {
+    let mut e = [7; ENTRIES];
+    assert_eq!(point::start(&mut e), ACCEPTED);
+    for m in 0..12 {
+        let lost = if m % 3 == 0 { 8_000 } else { 6_000 };
+        assert_eq!(e[6 * m..6 * m + 6], [0, 0, 2_000, lost, 0, 0]);
+    }
+    assert_eq!((&e[72..92], e[CYCLE]), (&[0; 20][..], 120));
+    assert_eq!(point_sheet(&e)[165..], [0; 10]);
+    for length in [0, 92, 94, 175] {
+        let mut list = vec![7; length];
+        assert_eq!(point::start(&mut list).number, SIZE);
+        assert_eq!(list, vec![7; length]);
+    }
+}
+
+/// One vehicle on a lane for each time, which is its minimum green; nobody for a time of 0.
+fn greens(times: [u32; 12]) -> [u32; ENTRIES] {
+    let mut e = point::START;
+    for (m, time) in times.into_iter().enumerate() {
+        let one = u32::from(time > 0);
+        e[6 * m..6 * m + 6].copy_from_slice(&[one, one, 2_000, 0, time, 0]);
+    }
+    e[CYCLE] = 100;
+    e
+}
+
+#[test]
+fn what_rights_wait_for() {
+    // no two sums of these are alike
+    let times = [
+        10_001, 20_003, 4_007, 8_009, 16_033, 32_063, 11_511, 13_023, 6_047, 9_067, 18_121, 5_003,
+    ];
+    let [ebl, ebt, ebr, wbl, wbt, wbr, nbl, nbt, nbr, sbl, sbt, sbr] = times;
+    let s = point_sheet(&greens(times));
+    assert_eq!(s[165..167], [wbl + ebt, nbl + sbt]);
+    let rights = [ebr + sbt + wbl, wbr + nbt + ebl, nbr + ebt + sbl, sbr + wbt + nbl];
+    assert_eq!(s[167..171], rights);
+    let combined = wbl + ebt + nbl + sbt;
+    assert_eq!(s[171..], [combined, combined, combined.div_ceil(100), 1]);
+    for a in 0..4 {
+        // free: the right turn alone; without volume: nothing
+        let s = point_sheet(&with(greens(times), &[(76 + 5 * a, 1)]));
+        assert_eq!(s[167 + a], times[3 * a + 2]);
+        let s = point_sheet(&with(greens(times), &[(18 * a + 13, 0)]));
+        assert_eq!(s[167 + a], 0);
+    }
+    // a right that decides, and one that is as long as combined
+    let s = point_sheet(&with(greens(times), &[(5 * 6 + 4, 60_000)]));
+    assert_eq!((s[172], s[173]), (60_000 + nbt + ebl, 831));
+    let mut tie = [0; 12];
+    (tie[2], tie[3], tie[7]) = (30_000, 10_000, 30_000);
+    assert_eq!(point_sheet(&greens(tie))[167..], [40_000, 0, 0, 0, 40_000, 40_000, 400, 0]);
+}
+
+#[test]
+fn refused_single_points() {
+    let answer = |changes: &[(usize, u32)]| {
+        let found = point::judge(&with(example_4(), changes));
+        (found.number, found.place)
+    };
+    let no_lane = (6, 0);
+    for a in 0..4 {
+        assert_eq!(answer(&[(72 + 5 * a, 1), no_lane]), (SHARED, a as u32));
+        assert_eq!(answer(&[(87, 1), (72 + 5 * a, 1)]), (SHARED, a as u32));
+        assert_eq!(answer(&[(72, 1), (72 + 5 * a, 2)]), (RANGE, 72 + 5 * a as u32));
+    }
+    assert_eq!(answer(&[no_lane]), (NOLANE, 1));
+    assert_eq!(answer(&[(54, 0), (66, 0)]), (NOLANE, 9));
+    assert_eq!(answer(&[(66, 0)]), (NOLANE, 11));
+    assert_eq!(answer(&[(5, 499), (72, 1)]), (RANGE, 5));
+    assert_eq!(answer(&[(CYCLE, 241), no_lane]), (RANGE, 92));
+    // a lane that a junction may share
+    assert_eq!((judge(&k2()), point::judge(&k2()).number), (ACCEPTED, SHARED));
+    for (entries, cells) in [(92, 175), (94, 175), (81, 175), (93, 174), (93, 176), (93, 221)] {
+        let mut e = example_4().to_vec();
+        e.resize(entries, 0);
+        let mut s = vec![7; cells];
+        assert_eq!(point::fill(&e, &mut s).number, SIZE);
+        assert_eq!(s, vec![7; cells]);
+    }
+}
+
+#[test]
+fn lines_of_a_junction() {
+    let mut rng = Rng::new(175);
+    let (mut protected, mut others) = (0, 0);
+    for _ in 0..2_000 {
+        let e = acceptable_point(&mut rng);
+        let (s, j) = (point_sheet(&e), sheet(&e));
+        for a in 0..4 {
+            let first = FIRST_LINE + LINES * a;
+            assert_eq!(s[93 + 18 * a..111 + 18 * a], j[first..first + 18]);
+        }
+        assert_eq!([s[165], s[166]], [j[PAIRS], j[PAIRS + 4]]);
+        if (j[PAIRS + 3], j[PAIRS + 7]) == (0, 0) {
+            assert_eq!(s[167..], j[LAST..]);
+            protected += 1;
+        } else {
+            others += 1;
+        }
+    }
+    assert!(protected > 300 && others > 300, "{protected} and {others}");
+}
+
+/// The lines of the own approach that a kind of entry reaches, six kinds of a movement and five of an approach.
+fn reached(kind: usize) -> Vec<usize> {
+    match kind {
+        0 | 1 | 2 | 5 | 6 => (1..19).collect(),
+        3 | 4 => vec![16, 17, 18],
+        7 => vec![10, 11, 12, 14, 15, 17, 18],
+        8 => vec![12, 17],
+        9 => vec![17],
+        _ => vec![],
+    }
+}
+
+/// The cells that an entry reaches, itself among them.
+fn point_reach(entry: usize) -> Vec<usize> {
+    let mut cells = vec![entry];
+    if entry == CYCLE {
+        cells.extend(93..175);
+        return cells;
+    }
+    let (kind, a) = match entry < 72 {
+        true => (entry % 6, entry / 18),
+        false => (6 + (entry - 72) % 5, (entry - 72) / 5),
+    };
+    cells.extend(reached(kind).iter().map(|line| 92 + 18 * a + line));
+    if kind != 10 {
+        cells.push(165 + a / 2);
+    }
+    cells.extend(167..175);
+    cells
+}
+
+#[test]
+fn amended_single_points() {
+    // on a sheet of sevens, what is reached is fresh and all else stays
+    let fresh = point_sheet(&example_4());
+    for entry in 0..ENTRIES {
+        let mut s = [7; point::CELLS];
+        s[..ENTRIES].copy_from_slice(&example_4());
+        let mut wanted = s;
+        point_reach(entry).iter().for_each(|&at| wanted[at] = fresh[at]);
+        assert_eq!(point::amend(&mut s, entry as u32, example_4()[entry]), ACCEPTED);
+        assert_eq!(s, wanted);
+    }
+    // a shared lane typed off
+    let mut s = fresh;
+    s[77] = 1;
+    let place = |answer: Answer| (answer.number, answer.place);
+    assert_eq!(place(point::amend(&mut s, 92, 90)), (SHARED, 1));
+    assert_eq!((place(point::amend(&mut s, 77, 0)), s), ((0, 0), fresh));
+    for (entry, value, answer) in [
+        (93, 0, (ENTRY, 0)),
+        (u32::MAX, 0, (ENTRY, 0)),
+        (87, 1, (SHARED, 3)),
+        (87, 2, (RANGE, 87)),
+        (43, 1, (NOLANE, 7)),
+        (5, 1_001, (RANGE, 5)),
+    ] {
+        assert_eq!((place(point::amend(&mut s, entry, value)), s), (answer, fresh));
+    }
+    assert_eq!(point::amend(&mut sheet(&k1()), 0, 1).number, SIZE);
+    assert_eq!(point::amend(&mut s[..174], 93, 1).number, SIZE);
+}
+
+#[test]
+fn amended_as_filled_afresh() {
+    let mut rng = Rng::new(167);
+    let (mut accepted, mut refused) = (0, 0);
+    while accepted < 3_000 {
+        let mut s = point_sheet(&acceptable_point(&mut rng));
+        for _ in 0..10 {
+            let ((entry, value), before) = (amendment(&mut rng), s);
+            if point::amend(&mut s, entry, value) != ACCEPTED {
+                assert_eq!(s, before);
+                refused += 1;
+                continue;
+            }
+            let mut e = [0; ENTRIES];
+            e.copy_from_slice(&before[..ENTRIES]);
+            assert_eq!(s, point_sheet(&with(e, &[(entry as usize, value)])));
+            accepted += 1;
+        }
+    }
+    assert!(refused > 300);
+    // what is nearly one comes with each refusal
+    let mut numbers = [0; 6];
+    for _ in 0..2_000 {
+        numbers[point::judge(&nearly_point(&mut rng)).number as usize] += 1;
+    }
+    assert!([0, RANGE, SHARED, NOLANE].iter().all(|&number| numbers[number as usize] > 20));
 }

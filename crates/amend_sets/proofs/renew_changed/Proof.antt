@@ -10,10 +10,10 @@ use Rattle.amend_sets.proofs.renew_changed.Statement.{statement}
 use Rattle.amend_sets.proofs.renew_changed.Tie as tie
 
 abbrev Inv-loop : tie.InvT-loop
-Inv-loop sheet₀ fresh changes n₀ sheet n = Renewed changes fresh sheet₀ sheet n
+Inv-loop kind sheet₀ fresh changes n₀ sheet n = Renewed changes kind fresh sheet₀ sheet n
 
 abbrev μ-loop : tie.MeasureT-loop
-μ-loop sheet₀ fresh changes n₀ sheet n = length changes / 2 - n
+μ-loop kind sheet₀ fresh changes n₀ sheet n = length changes / 2 - n
 
 loop-holds : tie.Need-loop-holds Inv-loop μ-loop
 loop-holds c =

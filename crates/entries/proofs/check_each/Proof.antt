@@ -12,16 +12,16 @@ use Rattle.entries.proofs.check_each.Statement.{statement}
 use Rattle.entries.proofs.check_each.Tie as tie
 
 abbrev Inv-loop : tie.InvT-loop
-Inv-loop entries fault count index₀ index = Searched (λ i. refuse-if (faulty entries fault i) (refusalOf fault) i) (countOf fault) index
+Inv-loop kind entries fault count index₀ index = Searched (λ i. refuse-if (faulty kind entries fault i) (refusalOf fault) i) (countOf fault) index
 
 abbrev μ-loop : tie.MeasureT-loop
-μ-loop entries fault count index₀ index = count - index
+μ-loop kind entries fault count index₀ index = count - index
 
 loop-holds : tie.Need-loop-holds Inv-loop μ-loop
 loop-holds c = search-starts _ _
 
-cast-t8 : tie.Need-cast-t8 Inv-loop μ-loop
-cast-t8 c = omega (arith, count-most (c .before .before .before .before .before .before .before .args .fault))
+cast-t9 : tie.Need-cast-t9 Inv-loop μ-loop
+cast-t9 c = omega (arith, count-most (c .before .before .before .before .before .before .before .args .fault))
 
 returns : tie.Need-returns Inv-loop μ-loop
 returns c =
@@ -38,5 +38,5 @@ returns-2 c = search-ends _ _ _ (omega arith) (c .before .loop .inv)
 pub check-each-spec : {M : Type 1} → statement M
 check-each-spec =
     tie.close
-    (tie.spec Inv-loop μ-loop (search needs) loop-holds (search needs) (search needs) cast-t8 returns (search needs) (search needs)
+    (tie.spec Inv-loop μ-loop (search needs) loop-holds (search needs) (search needs) cast-t9 returns (search needs) (search needs)
     loop-again returns-2)

@@ -6,7 +6,7 @@ use Rattle.entries.proofs.check_ranges.Statement.{statement}
 use Rattle.entries.proofs.check_ranges.Tie as tie
 
 returns : tie.Need-returns
-returns c = sym (all-accepted _ 0 entryCount (sym (c .before .all-in-range .ensures) ∙ c .if1 .taken))
+returns c = sym (all-accepted _ (c .before .before .before .args .kind) 0 entryCount (sym (c .before .all-in-range .ensures) ∙ c .if1 .taken))
 
 pub check-ranges-spec : {M : Type 1} → statement M
 check-ranges-spec = tie.close (tie.spec (search needs) returns (search needs) (λ c. search needs))

@@ -1,6 +1,6 @@
 -- Each check's answer is handed on where it refuses, and passed over where it accepts.
 use Rattle.entries.proofs.Laws.{size-accepted}
-use Rattle.entries.specs.Judging.{judged}
+use Rattle.entries.specs.Judging.{judgedFor}
 use Rattle.answers.proofs.Laws.{handed-on, passed}
 use mathlib.Core.Path.{sym, _∙_}
 use borrow.Author.Needs.{needs}
@@ -8,14 +8,14 @@ use Rattle.entries.proofs.judge.Statement.{statement}
 use Rattle.entries.proofs.judge.Tie as tie
 
 returns : tie.Need-returns
-unfolding judged
+unfolding judgedFor
 returns c = handed-on _ (c .before .before .check-size .ensures) (c .enum-told2 .given .1)
 
 check-ranges-requires : tie.Need-check-ranges-requires
 check-ranges-requires c κs = size-accepted _ (sym (c .before .before .check-size .ensures) ∙ c .enum-told .given .1)
 
 returns-2 : tie.Need-returns-2
-unfolding judged
+unfolding judgedFor
 returns-2 c =
     let s = c .before .before .before in
     passed _ (s .before .before .check-size .ensures) (s .enum-told .given .1)
@@ -27,7 +27,7 @@ check-each-requires c κs =
     size-accepted _ (sym (s .before .before .check-size .ensures) ∙ s .enum-told .given .1)
 
 returns-3 : tie.Need-returns-3
-unfolding judged
+unfolding judgedFor
 returns-3 c =
     let t = c .before .before .before in
     let s = t .before .before .before in
@@ -41,7 +41,7 @@ check-each-requires-2 c κs =
     size-accepted _ (sym (s .before .before .check-size .ensures) ∙ s .enum-told .given .1)
 
 returns-4 : tie.Need-returns-4
-unfolding judged
+unfolding judgedFor
 returns-4 c =
     let u = c .before in
     let t = u .before .before .before in

@@ -4,10 +4,10 @@ use Rattle.icusheet.proofs.put_pages.Statement.{statement}
 use Rattle.icusheet.proofs.put_pages.Tie as tie
 
 abbrev Inv-loop : tie.InvT-loop
-Inv-loop words area pages input site₀ site = site ≤ pages
+Inv-loop call words area pages site₀ site = site ≤ pages
 
 abbrev μ-loop : tie.MeasureT-loop
-μ-loop words area pages input site₀ site = pages - site
+μ-loop call words area pages site₀ site = pages - site
 
 pub put-pages-spec : {M : Type 1} → statement M
 put-pages-spec =

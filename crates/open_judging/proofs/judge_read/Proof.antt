@@ -1,6 +1,7 @@
 -- The three checks in order, and then the entries.
 use Rattle.open_rules.proofs.Laws.{whole, site-accepted, own-place}
 use Rattle.open_rules.specs.Open.{study, studySize, siteOwner, readAnswer}
+use Rattle.layout.specs.declared.Worksheet.the-variants.{Junction}
 use Rattle.sheet_cells.specs.Cells.{sheetAnswer}
 use Rattle.entries.specs.Judging.{judged}
 use Rattle.open_judging.proofs.Laws.{Told, told, refused-early, judged-last, all-three}
@@ -14,7 +15,7 @@ use Rattle.open_judging.proofs.judge_read.Tie as tie
 may :
     (f : tie.After-in-order2)
     → let s = f .before .before .before .before .before .before .before .before in
-    Told (f .in-order2 .result) (studySize (study (now (s .args .owners)) (now (s .args .blocks)))) (sheetAnswer (now (s .args .sheet)))
+    Told (f .in-order2 .result) (studySize (study (now (s .args .owners)) (now (s .args .blocks)))) (sheetAnswer Junction (now (s .args .sheet)))
     (siteOwner (now (s .args .owners)) (s .args .office) (s .args .site))
 may f =
     told (f .in-order2 .ensures) (f .before .before .in-order .ensures) (f .before .before .before .before .check-study .ensures)

@@ -10,39 +10,56 @@ use Rattle.text.specs.Text.{ascii, Placed}
 use Rattle.layout.specs.Sheet.{sheetCount}
 use Rattle.page.specs.Worksheet.{rowWidth, changeHead, changeRows}
 use Rattle.page.specs.Working.{changeBytes}
-use Rattle.page.proofs.Laws.{row-listed, row-unlisted}
+use Rattle.page.proofs.Laws.{few-sheet, row-listed, row-unlisted}
 use Rattle.page.proofs.changes.Statement.{statement}
 use Rattle.page.proofs.changes.Tie as tie
 
 abbrev Inv-loop : tie.InvT-loop
-Inv-loop before after out₀ at₀ cell₀ out at cell =
-    (cell ≤ sheetCount) × (at ≤ rowWidth * (cell + 1))
+Inv-loop kind before after out₀ cells at₀ cell₀ out at cell =
+    (cell ≤ cells) × (at ≤ rowWidth * (cell + 1))
     × ((list : List ℕ) → length list ≡ changeBytes → Placed list 0 changeHead out₀ at₀
-    → Placed list 0 (changeRows before after cell) out at)
+    → Placed list 0 (changeRows kind before after cell) out at)
 
 abbrev μ-loop : tie.MeasureT-loop
-μ-loop before after out₀ at₀ cell₀ out at cell = sheetCount - cell
+μ-loop kind before after out₀ cells at₀ cell₀ out at cell = cells - cell
 
 loop-holds : tie.Need-loop-holds Inv-loop μ-loop
 unfolding changeRows
 loop-holds c = (omega arith, omega (arith, c .put-bytes .ensures .next), λ list long head. head)
 
+put-change-requires : tie.Need-put-change-requires Inv-loop μ-loop
+put-change-requires c κs =
+    let start = c .before .before .before .before .before .before .before .before .before .before .before in
+    omega (arith, few-sheet (start .args .kind))
+
+add-at : tie.Need-add-at Inv-loop μ-loop
+add-at c =
+    let start = c .before .before .before .before .before .before .before .before .before .before .before .before in
+    omega (arith, few-sheet (start .args .kind))
+
+add-cell : tie.Need-add-cell Inv-loop μ-loop
+add-cell c =
+    let start = c .before .before .before .before .before .before .before .before .before .before in
+    omega (arith, few-sheet (start .args .kind))
+
 loop-again : tie.Need-loop-again Inv-loop μ-loop
 loop-again c =
     let is = sym (c .before .is-listed .ensures) in
     let loop = c .before .before .before .loop in
+    let start = c .before .before .before .before .before .before .before .before .before .before in
     let n = loop .cell in
+    let few = few-sheet (start .args .kind) in
     ⊎-elim
     (λ w. (
       omega arith,
       omega (arith, w .4),
       λ list long head. rw (w .4)
-          (row-listed _ _ n (omega arith) long (is ∙ w .0 .taken) (loop .inv .2 list long head) (w .3 ∙ w .2 .ensures)),
+          (row-listed _ _ _ n (omega arith) long (is ∙ w .0 .taken) (loop .inv .2 list long head) (w .3 ∙ w .2 .ensures)),
     ))
     (λ w. (
       omega arith,
       omega (arith, w .2),
-      λ list long head. rw (w .1, w .2) (row-unlisted _ _ n (is ∙ w .0 .left) (loop .inv .2 list long head)),
+      λ list long head. rw (w .1, w .2) (row-unlisted _ _ _ n (is ∙ w .0 .left) (loop .inv .2 list long head)),
     ))
     (c .if1 .came)
 
@@ -50,13 +67,13 @@ returns : tie.Need-returns Inv-loop μ-loop
 unfolding changeHead ascii
 returns c =
     let head = c .before .before in
-    let list = head .before .before .before .before .before .args .out .now in
-    let end : c .before .loop .cell ≡ sheetCount = omega arith in
-    let rows = rw end at (c .before .loop .inv .2 list (omega arith) (head .put-bytes .ensures)) in
+    let args = head .before .before .before .before .before .before .args in
+    let end : c .before .loop .cell ≡ sheetCount (args .kind) = omega arith in
+    let rows = rw end at (c .before .loop .inv .2 (args .out .now) (omega arith) (head .put-bytes .ensures)) in
     (rows .is, omega (arith, rows .next))
 
 pub changes-spec : {M : Type 1} → statement M
 changes-spec =
     tie.close
-    (tie.spec Inv-loop μ-loop (search needs) (search needs) loop-holds (search needs) (search needs) (search needs)
-    (search needs) (search needs) loop-again returns)
+    (tie.spec Inv-loop μ-loop (search needs) (search needs) (search needs) loop-holds (search needs) put-change-requires
+    add-at add-cell (search needs) loop-again returns)

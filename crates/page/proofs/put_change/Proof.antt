@@ -12,11 +12,11 @@ use Rattle.page.proofs.put_change.Statement.{statement}
 use Rattle.page.proofs.put_change.Tie as tie
 
 abbrev Inv-loop : tie.InvT-loop
-Inv-loop before after cell out₀ at i₀ out i =
-    (i ≤ rowWidth) × (length out ≡ length out₀) × (out ≡ over out₀ at (table (changeByte before after cell) i))
+Inv-loop kind before after cell out₀ at i₀ out i =
+    (i ≤ rowWidth) × (length out ≡ length out₀) × (out ≡ over out₀ at (table (changeByte kind before after cell) i))
 
 abbrev μ-loop : tie.MeasureT-loop
-μ-loop before after cell out₀ at i₀ out i = rowWidth - i
+μ-loop kind before after cell out₀ at i₀ out i = rowWidth - i
 
 loop-holds : tie.Need-loop-holds Inv-loop μ-loop
 unfolding table
@@ -26,7 +26,7 @@ loop-again : tie.Need-loop-again Inv-loop μ-loop
 loop-again c =
     let turn = c .before .before in
     let args = turn .before .before .before .before .args in
-    let byte = changeByte (args .before .now) (args .after .now) (args .cell) in
+    let byte = changeByte (args .kind) (args .before .now) (args .after .now) (args .cell) in
     let i = turn .loop .i in (
       omega arith,
       simp length-set (turn .loop .inv .1),

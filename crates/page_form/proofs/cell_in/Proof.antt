@@ -5,14 +5,13 @@ use Prim.Native.Nat.{ℕ, _*_, _≤_, _<_}
 use borrow.Author.Needs.{needs}
 use Rattle.layout.specs.Entries.{approachCount}
 use Rattle.page_form.specs.declared.Section.{Section}
-use Rattle.page_form.specs.Form.{rowCount}
-use Rattle.page_form.specs.Working.{Small}
+use Rattle.page_form.specs.Working.{mostRows, Small}
 use Rattle.page_form.proofs.cell_in.Statement.{statement}
 use Rattle.page_form.proofs.cell_in.Tie as tie
 
 -- a step of a section, as often as a sheet has columns
-far : (s : Section) (column : ℕ) → Small s → column < approachCount → s .step * column ≤ rowCount * approachCount
-far s column small h = mul-le-mul {n₂ = rowCount} {m₂ = approachCount} (omega (arith, small .rows)) (omega arith)
+far : (s : Section) (column : ℕ) → Small s → column < approachCount → s .step * column ≤ mostRows * approachCount
+far s column small h = mul-le-mul {n₂ = mostRows} {m₂ = approachCount} (omega (arith, small .rows)) (omega arith)
 
 mul-result : tie.Need-mul-result
 mul-result c =

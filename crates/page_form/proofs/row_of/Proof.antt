@@ -4,13 +4,12 @@ use native.Mathlib.Omega.{arith}
 use Prim.Native.Nat.{ℕ, _+_, _%_, _<_}
 use borrow.Author.Needs.{needs}
 use Rattle.page_form.specs.declared.Section.{Section}
-use Rattle.page_form.specs.Form.{rowCount}
-use Rattle.page_form.specs.Working.{Small}
+use Rattle.page_form.specs.Working.{mostRows, Small}
 use Rattle.page_form.proofs.row_of.Statement.{statement}
 use Rattle.page_form.proofs.row_of.Tie as tie
 
 -- the row of any cell of a section is on the page
-on-page : (s : Section) (far : ℕ) → Small s → s .row + far % s .step < rowCount
+on-page : (s : Section) (far : ℕ) → Small s → s .row + far % s .step < mostRows
 on-page s far small = omega (arith, mod-lt far {m = s .step} (small .steps), small .rows)
 
 add-result : tie.Need-add-result

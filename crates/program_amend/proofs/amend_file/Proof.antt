@@ -11,7 +11,7 @@ change-all-requires : tie.Need-change-all-requires
 change-all-requires c κs =
     let changes = c .before .before in
     let start = changes .before .before .before .before .before .before .before .before .before .before in
-    rw (changes .changes-in .ensures) (few-changes (start .args .count) (start .pre .0))
+    rw (changes .changes-in .ensures) (few-changes (start .args .call .arguments) (start .pre .0))
 
 give-requires : tie.Need-give-requires
 give-requires c κs =
@@ -23,7 +23,7 @@ give-requires c κs =
     let came = call .change-all .ensures in (
       site-there _ _ (sym (read .read-site .ensures .0) ∙ told .sought .given .1),
       λ is. start .pre .1 (sym (kept .is-kept .ensures) ∙ is),
-      λ made. rw (came .entries) (made-acceptable _ _ _ _ (sym (came .made) ∙ made)),
+      λ made. rw (came .entries) (made-acceptable _ _ _ _ _ (sym (came .made) ∙ made)),
     )
 
 returns : tie.Need-returns
@@ -38,7 +38,7 @@ returns c =
     let is = sym (read .read-site .ensures .0) ∙ told .sought .given .1 in
     let came = rw (read .read-site .ensures .1, is, changes .changes-in .ensures) at (call .change-all .ensures) in
     let given = rw (read .read-site .ensures .1, is, kept .is-kept .ensures) at (c .give .ensures) in
-    left-given (start .args .count) (start .args .words .now) (start .args .file .now) (rw (word .word2 .ensures) at is) came
+    left-given _ _ (start .args .words .now) (start .args .file .now) (rw (word .word2 .ensures) at is) came
     (given .0) (given .1 .0) (given .1 .1)
 
 returns-2 : tie.Need-returns-2

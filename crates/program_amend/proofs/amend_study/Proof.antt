@@ -24,7 +24,7 @@ returns c =
     (left-saying (rw (word .word .ensures) at (say .say-old .ensures)), placed-nothing _ 0)
 
 -- it is not to be kept, or not one of before
-other : (d : tie.Joined1) → let args = d .before .before .before .before .args in (isKept (args .count) && isOld (args .file .now)) ≡ false
+other : (d : tie.Joined1) → let args = d .before .before .before .before .args in (isKept (args .call .arguments) && isOld (args .file .now)) ≡ false
 other d =
     let kept = d .before .is-kept .ensures in
     ⊎-elim (λ w. rw (sym kept ∙ w .0 .taken) (sym (w .1 .ensures) ∙ w .2 .left)) (λ w. rw (sym kept ∙ w .left)) (d .if1 .came)
@@ -33,7 +33,7 @@ amend-file-requires : tie.Need-amend-file-requires
 amend-file-requires c κs =
     let test = c .before .before .before in
     let start = test .before .before .before .before in
-    (start .pre, λ is. not-old (start .args .file .now) (not-both (isKept (start .args .count)) _ (other test) is))
+    (start .pre, λ is. not-old (start .args .file .now) (not-both (isKept (start .args .call .arguments)) _ (other test) is))
 
 returns-2 : tie.Need-returns-2
 unfolding amendStudy

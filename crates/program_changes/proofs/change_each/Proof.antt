@@ -12,12 +12,12 @@ use Rattle.program_changes.proofs.change_each.Statement.{statement}
 use Rattle.program_changes.proofs.change_each.Tie as tie
 
 abbrev Inv-loop : tie.InvT-loop
-Inv-loop words changes entries₀ said₀ several so₀ n₀ entries said so n =
+Inv-loop worksheet words changes entries₀ said₀ several so₀ n₀ entries said so n =
     (n ≤ changes) × (so .says ≤ sentenceMost * n) × (length said ≡ saidMost)
-    × Came (changesTo several words entries₀ n) said₀ entries said so
+    × Came (changesTo worksheet several words entries₀ n) said₀ entries said so
 
 abbrev μ-loop : tie.MeasureT-loop
-μ-loop words changes entries₀ said₀ several so₀ n₀ entries said so n = changes - n
+μ-loop worksheet words changes entries₀ said₀ several so₀ n₀ entries said so n = changes - n
 
 loop-holds : tie.Need-loop-holds Inv-loop μ-loop
 unfolding changesTo
@@ -25,20 +25,22 @@ loop-holds c = (omega arith, omega arith, c .before .before .pre .1, record { en
 
 step-requires : tie.Need-step-requires Inv-loop μ-loop
 step-requires c κs =
-    let loop = c .before .before .before .loop in
+    let loop = c .before .before .before .before .loop in
     (omega (arith, loop .inv .1, loop .inv .2), omega arith)
 
 loop-again : tie.Need-loop-again Inv-loop μ-loop
 loop-again c =
     let call = c .before .before in
-    let loop = call .before .before .before .before .loop in
-    let start = call .before .before .before .before .before .before .before in
-    let step = call .step .ensures in
-    let says = step .1 .1 in (
+    let change = call .before .before in
+    let test = change .before .before in
+    let loop = test .before .loop in
+    let start = test .before .before .before .before in
+    let says = call .step .ensures .1 in (
       omega arith,
       omega (arith, loop .inv .1, says .1),
       omega (arith, loop .inv .2),
-      came-more _ (start .args .words .now) (start .args .entries .now) (loop .n) (loop .inv .3) (step .0) (step .1 .0) (says .0)
+      came-more _ _ (start .args .words .now) (start .args .entries .now) (loop .n) (loop .inv .3)
+          (change .change-in .ensures .0) (change .change-in .ensures .1) (call .step .ensures .0) (says .0)
           (omega (arith, loop .inv .1, start .pre .1, says .1)),
     )
 
@@ -48,4 +50,4 @@ returns c =
     rw end at (c .before .loop .inv .3)
 
 pub change-each-spec : {M : Type 1} → statement M
-change-each-spec = tie.close (tie.spec Inv-loop μ-loop loop-holds step-requires (search needs) (search needs) loop-again (search needs) returns)
+change-each-spec = tie.close (tie.spec Inv-loop μ-loop loop-holds (search needs) step-requires (search needs) (search needs) loop-again (search needs) returns)

@@ -1,4 +1,4 @@
--- `program_heading::put_site_heading`. The form feed if there is one, whose page it is, the number of sites, and the lines' ends.
+-- `program_heading::put_site_heading`. What stands before the name, whose page it is, the number of sites, and the lines' ends.
 use Rattle.program_heading.specs.Headings.{siteHeading}
 use Rattle.text.specs.Text.{ascii}
 use Rattle.text.proofs.Laws.{placed-after, placed-three}
@@ -15,7 +15,7 @@ returns c =
     let second = third .before .before .before .before .before in
     let first = second .before .before .before .before in
     let ends = fourth .put-bytes .ensures in
-    let told = placed-three (first .put-feed .ensures .0) (second .put-site-title .ensures .0) (third .put-numbered .ensures .0) (omega arith) in
+    let told = placed-three (first .put-begin .ensures .0) (second .put-site-title .ensures .0) (third .put-numbered .ensures .0) (omega arith) in
     (placed-after told ends (omega arith), omega (arith, ends .next))
 
 pub put-site-heading-spec : {M : Type 1} → statement M

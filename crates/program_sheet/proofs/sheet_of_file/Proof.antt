@@ -9,7 +9,7 @@ use Rattle.program_sheet.proofs.sheet_of_file.Tie as tie
 returns : tie.Need-returns
 returns c =
     let test = c .before .before .before in
-    rw (eq-eqb _ _ (test .if1 .taken)) (rw (test .before .word .ensures) at (c .sheet-of-text .ensures))
+    rw (eq-eqb _ _ (test .if1 .taken)) (rw (test .before .before .word .ensures) at (c .sheet-of-text .ensures))
 
 returns-2 : tie.Need-returns-2
 unfolding ascii
@@ -18,7 +18,7 @@ returns-2 c =
     let word = test .before .before .before in
     let first = word .before in
     let all = rw (word .word2 .ensures) at (sym (test .before .is-same .ensures) ∙ test .if2 .taken) in
-    rw (ne-eqb _ _ (first .if1 .left), all) (rw (first .before .word .ensures, word .word2 .ensures) at (c .before-all .ensures))
+    rw (ne-eqb _ _ (first .if1 .left), all) (rw (first .before .before .word .ensures, word .word2 .ensures) at (c .before-all .ensures))
 
 returns-3 : tie.Need-returns-3
 unfolding ascii
@@ -27,7 +27,7 @@ returns-3 c =
     let word = test .before .before .before in
     let first = word .before in
     let one = rw (word .word2 .ensures) at (sym (test .before .is-same .ensures) ∙ test .if2 .left) in
-    rw (ne-eqb _ _ (first .if1 .left), one) (rw (first .before .word .ensures, word .word2 .ensures) at (c .sheet-of-site .ensures))
+    rw (ne-eqb _ _ (first .if1 .left), one) (rw (first .before .before .word .ensures, word .word2 .ensures) at (c .sheet-of-site .ensures))
 
 pub sheet-of-file-spec : {M : Type 1} → statement M
 sheet-of-file-spec =

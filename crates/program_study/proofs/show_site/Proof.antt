@@ -3,7 +3,6 @@ use Rattle.program_study.specs.Run.{showAt}
 use Rattle.program_outcome.proofs.Laws.{left-printing}
 use Rattle.program_site.proofs.Laws.{left-unsought}
 use mathlib.Core.Path.{refl, sym, _∙_}
-use native.Mathlib.Omega.{arith}
 use borrow.Author.Needs.{needs}
 use Rattle.program_study.proofs.show_site.Statement.{statement}
 use Rattle.program_study.proofs.show_site.Tie as tie
@@ -11,11 +10,11 @@ use Rattle.program_study.proofs.show_site.Tie as tie
 returns : tie.Need-returns
 unfolding showAt
 returns c =
-    let told = c .before .before .before in
+    let put = c .before in
+    let told = put .before .before .before in
     let read = told .before .before in
     let is = sym (read .read-site .ensures .0) ∙ told .enum-told .given .1 in
-    let text = rw (read .read-site .ensures .1, is) at (c .write .ensures) in
-    rw is (left-printing (record { is = text .0; next = omega (arith, text .1) }))
+    rw (is, c .only-printed .ensures) (left-printing (rw (read .read-site .ensures .1, is) at (put .put-text .ensures)))
 
 returns-2 : tie.Need-returns-2
 unfolding showAt
@@ -37,4 +36,4 @@ pub show-site-spec : {M : Type 1} → statement M
 show-site-spec =
     tie.close
     (tie.spec (search needs) (search needs) (search needs) (search needs) (search needs) (search needs) (search needs) (search needs)
-    (search needs) returns returns-2 returns-3)
+    (search needs) (search needs) returns returns-2 returns-3)

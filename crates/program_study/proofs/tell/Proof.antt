@@ -33,15 +33,26 @@ returns-5 c =
 
 returns-6 : tie.Need-returns-6
 unfolding toldOf
-returns-6 c = rw (c .before .before .enum-told6 .given .1) (left-printing (c .put-use2 .ensures))
+returns-6 c =
+    let put = c .before in
+    rw (put .before .before .enum-told6 .given .1, c .only-printed .ensures) (left-printing (put .put-use2 .ensures))
 
 returns-7 : tie.Need-returns-7
 unfolding toldOf
-returns-7 c = rw (c .before .before .enum-told7 .given .1) (left-printing (c .put-version .ensures))
+returns-7 c =
+    let put = c .before in
+    rw (put .before .before .enum-told7 .given .1, c .only-printed2 .ensures) (left-printing (put .put-version .ensures))
+
+returns-8 : tie.Need-returns-8
+unfolding toldOf
+returns-8 c =
+    let put = c .before in
+    rw (put .before .before .enum-told8 .given .1, c .only-printed3 .ensures) (left-printing (put .put-point .ensures))
 
 pub tell-spec : {M : Type 1} → statement M
 tell-spec =
     tie.close
     (tie.spec (search needs) (search needs) (search needs) (search needs) (search needs) (search needs) (search needs) (search needs)
     (search needs) (search needs) (search needs) (search needs) (search needs) (search needs) (search needs) (search needs) (search needs)
-    returns returns-2 returns-3 returns-4 returns-5 returns-6 returns-7)
+    (search needs) (search needs) (search needs) (search needs) (search needs)
+    returns returns-2 returns-3 returns-4 returns-5 returns-6 returns-7 returns-8)

@@ -28,7 +28,7 @@ unfolding workOf ascii
 returns-4 c =
     let second = c .before in
     let first = second .before .before .before in
-    rw (sym (first .before .is-same .ensures) ∙ first .if1 .left, sym (second .before .is-same2 .ensures) ∙ second .if4 .taken) (c .of-two .ensures)
+    rw (sym (first .before .is-same .ensures) ∙ first .if1 .left, sym (second .before .is-same2 .ensures) ∙ second .if4 .taken) (c .job-with .ensures)
 
 returns-5 : tie.Need-returns-5
 unfolding workOf ascii
@@ -41,21 +41,38 @@ returns-5 c =
       sym (second .before .is-same2 .ensures) ∙ second .if4 .left,
       sym (third .before .is-same3 .ensures) ∙ third .if5 .taken,
     )
-    (c .of-two2 .ensures)
+    (c .job-with2 .ensures)
 
 returns-6 : tie.Need-returns-6
 unfolding workOf ascii
 returns-6 c =
-    let second = c .before .before .before in
+    let fourth = c .before in
+    let third = fourth .before .before .before in
+    let second = third .before .before .before in
     let first = second .before .before .before in
     rw (
       sym (first .before .is-same .ensures) ∙ first .if1 .left,
       sym (second .before .is-same2 .ensures) ∙ second .if4 .left,
-      sym (c .before .is-same3 .ensures) ∙ c .if5 .left,
+      sym (third .before .is-same3 .ensures) ∙ third .if5 .left,
+      sym (fourth .before .is-same4 .ensures) ∙ fourth .if6 .taken,
+    )
+    (c .job-with3 .ensures)
+
+returns-7 : tie.Need-returns-7
+unfolding workOf ascii
+returns-7 c =
+    let third = c .before .before .before in
+    let second = third .before .before .before in
+    let first = second .before .before .before in
+    rw (
+      sym (first .before .is-same .ensures) ∙ first .if1 .left,
+      sym (second .before .is-same2 .ensures) ∙ second .if4 .left,
+      sym (third .before .is-same3 .ensures) ∙ third .if5 .left,
+      sym (c .before .is-same4 .ensures) ∙ c .if6 .left,
     )
 
 pub work-of-spec : {M : Type 1} → statement M
 work-of-spec =
     tie.close
     (tie.spec (search needs) (search needs) returns (search needs) returns-2 returns-3 (search needs) (search needs) (search needs) returns-4
-    (search needs) (search needs) (search needs) returns-5 returns-6)
+    (search needs) (search needs) (search needs) returns-5 (search needs) (search needs) (search needs) returns-6 returns-7)

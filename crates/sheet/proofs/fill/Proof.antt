@@ -1,7 +1,7 @@
 -- A refusal of the size or of the entries is handed on and the sheet kept; accepted, it is written afresh.
 use Rattle.sheet_cells.proofs.Cells.{sheet-accepted}
 use Rattle.sheet.specs.Fill.{fillAnswer, filled}
-use Rattle.procedure.specs.Sheet.{sheet}
+use Rattle.procedure.specs.Sheet.{sheetFor}
 use Rattle.answers.proofs.Laws.{handed-on, passed, kept, renewed}
 use mathlib.Core.Path.{_≡_, sym, _∙_}
 use denote.Ref.{now}
@@ -23,12 +23,13 @@ returns-2 c =
     (answer, kept _ _ (sym answer ∙ c .enum-told4 .given .1))
 
 write-fresh-requires : tie.Need-write-fresh-requires
-write-fresh-requires c κs = (
-  sym (c .before .before .before .judge .ensures)
-      ∙ c .before .enum-told3 .given .1,
-  sheet-accepted (now (c .before .before .before .before .before .before .before .before .before .before .args .sheet))
-      (sym (c .before .before .before .before .before .before .check-sheet .ensures) ∙ c .before .before .before .before .enum-told .given .1),
-)
+write-fresh-requires c κs =
+    let sized = c .before .before .before .before in
+    let size = sized .before .before in
+    let s = size .before .before .before .before in (
+      sym (c .before .before .before .judge .ensures) ∙ c .before .enum-told3 .given .1,
+      sheet-accepted (s .args .kind) (now (s .args .sheet)) (sym (size .check-sheet .ensures) ∙ sized .enum-told .given .1),
+    )
 
 returns-3 : tie.Need-returns-3
 unfolding fillAnswer filled
@@ -37,7 +38,7 @@ returns-3 c =
     let answer = passed _ (c .before .before .before .before .before .before .before .before .before .check-sheet .ensures)
     (c .before .before .before .before .before .before .before .enum-told .given .1)
     (sym (c .before .before .before .before .enum-told3 .given .1) ∙ c .before .before .before .before .before .before .judge .ensures) in
-    (answer, c .before .before .write-fresh .ensures ∙ renewed (sheet (now (s .args .entries))) _ (sym answer))
+    (answer, c .before .before .write-fresh .ensures ∙ renewed (sheetFor (s .args .kind) (now (s .args .entries))) _ (sym answer))
 
 pub fill-spec : {M : Type 1} → statement M
 fill-spec =

@@ -16,8 +16,9 @@ returns c =
     let last = rest .before .before in
     let s = last .before .before .before in
     let e = now (s .args .entries) in
+    let k = s .args .kind in
     rest .put-rest .ensures
-    ∙ ap (over (now (s .args .all)) pairsFrom) (rest-assembled e (s .pre .1 .0 .pair) (s .pre .1 .1 .pair) (last .last-at .ensures))
+    ∙ ap (over (now (s .args .all)) (pairsFrom k)) (rest-assembled k e (s .pre .1 .0 .pair) (s .pre .1 .1 .pair) (last .last-at .ensures))
 
 pub put-streets-spec : {M : Type 1} → statement M
 put-streets-spec = tie.close (tie.spec last-at-requires (search needs) (search needs) returns)

@@ -1,10 +1,10 @@
 use borrow.Author.Needs.{needs}
-use Rattle.sheet_beside.specs.Beside.{throughIn}
+use Rattle.procedure.specs.Pairs.{throughTime}
 use Rattle.sheet_beside.proofs.through_in.Statement.{statement}
 use Rattle.sheet_beside.proofs.through_in.Tie as tie
 
 returns : tie.Need-returns
-unfolding throughIn
+unfolding throughTime
 returns c =
     let first = c .before .before in
     let pick = first .before in

@@ -7,8 +7,8 @@ use Rattle.text_reader.specs.Reader.{reading}
 use Rattle.text_reader.proofs.read.Statement.{statement}
 use Rattle.text_reader.proofs.read.Tie as tie
 
-sub-t7 : tie.Need-sub-t7
-sub-t7 c = omega (arith, c .mark-size .ensures .0, mark-few (c .before .before .before .args .text .now))
+sub-t8 : tie.Need-sub-t8
+sub-t8 c = omega (arith, c .mark-size .ensures .0, mark-few (c .before .before .before .args .text .now))
 
 returns : tie.Need-returns
 unfolding reading
@@ -19,4 +19,4 @@ unfolding reading
 returns-2 c = rw (le-ltb _ _ (c .before .before .if1 .left)) (c .read-short .ensures)
 
 pub read-spec : {M : Type 1} → statement M
-read-spec = tie.close (tie.spec (search needs) sub-t7 returns (search needs) returns-2)
+read-spec = tie.close (tie.spec (search needs) sub-t8 returns (search needs) returns-2)

@@ -2,7 +2,7 @@
 //! blocks of any entries, and steps for a site of one's own, for another's and for none at all.
 
 use super::{acceptable, amendment, any_entries, any_length, any_number, any_numbers};
-use super::{nearly, usual, Rng};
+use super::{nearly, usual, Rng, JUNCTION};
 use crate::open::{BLOCKS, FREE, PLACES};
 use crate::rules::{self, approach_entry, kind_of, movement_entry};
 use crate::rules::{CELLS, ENTRIES, NOLANE, RANGE, SHARED};
@@ -177,7 +177,7 @@ pub fn any_step(rng: &mut Rng, offices: &[u32], owners: &[u32], blocks: &[u32]) 
     };
     let site = any_site(rng, owners, office);
     let act = match rng.below(8) {
-        0 | 1 => Act::Add(any_entries(rng)),
+        0 | 1 => Act::Add(any_entries(rng, &JUNCTION)),
         2..=4 => Act::Read(site, sheet_length(rng)),
         _ => Act::Amend(site, change(rng, blocks, site)),
     };
