@@ -17,10 +17,6 @@ use Rattle.page.specs.Worksheet.{rowWidth, changeByte, isListed, changeH
 use Rattle.page.specs.Working.{changeBytes}
 
 -- no sheet has more cells than a junction's
-pub few-sheet : (k : Worksheet) → sheetCount k ≤ sheetCount Junction
-few-sheet Junction = omega arith
-few-sheet Point = omega arith
-
 -- what changed, row after row
 
 module _ (k : Worksheet) (before after : List ℕ) where

@@ -4,6 +4,7 @@ use mathlib.Core.Path.{_≡_, refl}
 use lib.ListN.{length}
 use native.Mathlib.Omega.{arith}
 use Rattle.text.specs.Text.{ascii, joined}
+use Rattle.layout.proofs.Laws.{few}
 use Rattle.layout.specs.Entries.{approachCount}
 use Rattle.layout.specs.Sheet.{lineCount, pairCells, besideNumbers}
 use Rattle.layout.specs.declared.Worksheet.{Worksheet}
@@ -27,18 +28,6 @@ unfolding titles joined ascii
 titled Junction = refl
 titled Point = refl
 
-some-lines : (k : Worksheet) → 0 < lineCount k
-some-lines Junction = omega arith
-some-lines Point = omega arith
-
-some-pairs : (k : Worksheet) → 0 < pairCells k
-some-pairs Junction = omega arith
-some-pairs Point = omega arith
-
-some-beside : (k : Worksheet) → 0 < besideNumbers k
-some-beside Junction = omega arith
-some-beside Point = omega arith
-
 module _ (k : Worksheet) where
   -- a section of the kind's own page
   within : (s : Section) → endOf Rows s ≤ rowCount k → endOf Cells s ≤ shownCount k → s .columns ≤ approachCount → 0 < s .step → Small s
@@ -46,10 +35,10 @@ module _ (k : Worksheet) where
       record { rows = omega (arith, few-rows k); cells = omega (arith, few-cells k); wide = wide; steps = steps }
 
   pub small-lines : Small (lines k)
-  small-lines = within (lines k) (omega arith) (omega arith) (omega arith) (some-lines k)
+  small-lines = within (lines k) (omega arith) (omega arith) (omega arith) (omega (arith, few k .least))
 
   pub small-pairs : Small (pairs k)
-  small-pairs = within (pairs k) (omega arith) (omega arith) (omega arith) (some-pairs k)
+  small-pairs = within (pairs k) (omega arith) (omega arith) (omega arith) (few k .some-pair)
 
   pub small-rights : Small (rights k)
   small-rights = within (rights k) (omega arith) (omega arith) (omega arith) (omega arith)
@@ -58,4 +47,4 @@ module _ (k : Worksheet) where
   small-whole = within (whole k) (omega arith) (omega arith) (omega arith) (omega arith)
 
   pub small-beside : Small (beside k)
-  small-beside = within (beside k) (omega arith) (omega arith) (omega arith) (some-beside k)
+  small-beside = within (beside k) (omega arith) (omega arith) (omega arith) (few k .some-beside)

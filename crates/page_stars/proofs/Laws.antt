@@ -1,6 +1,7 @@
 -- Where the lines and the totals of each kind's sheet stand, so far as their needs go.
 use Prim.Native.Nat.{ℕ, _+_, _*_, _-_, _/_, _≤_, _<_}
 use native.Mathlib.Omega.{arith}
+use Rattle.layout.proofs.Laws.{few}
 use Rattle.layout.specs.Entries.{approachCount}
 use Rattle.layout.specs.Sheet.{lineCount, pairCount, pairCells, pairOf, linesOf, lastFrom, sheetCount}
 use Rattle.layout.specs.declared.Worksheet.{Worksheet}
@@ -8,18 +9,9 @@ use Rattle.layout.specs.declared.Worksheet.the-variants.{Junction, Point}
 
 -- each kind has lines 16 and 17
 pub with-times : (k : Worksheet) → 17 ≤ lineCount k
-with-times Junction = omega arith
-with-times Point = omega arith
-
-pub some-totals : (k : Worksheet) → 0 < pairCells k
-some-totals Junction = omega arith
-some-totals Point = omega arith
+with-times k = omega (arith, few k .least)
 
 -- and no more cells than a junction's sheet
-pub few-lines : (k : Worksheet) → lineCount k ≤ lineCount Junction
-few-lines Junction = omega arith
-few-lines Point = omega arith
-
 pub few-last : (k : Worksheet) → lastFrom k ≤ lastFrom Junction
 few-last Junction = omega arith
 few-last Point = omega arith

@@ -7,10 +7,11 @@ use lib.ListN.{length}
 use native.Mathlib.Omega.{arith}
 use borrow.Author.Needs.{needs}
 use Rattle.text.specs.Text.{ascii, Placed}
+use Rattle.layout.proofs.Laws.{few}
 use Rattle.layout.specs.Sheet.{sheetCount}
 use Rattle.page.specs.Worksheet.{rowWidth, changeHead, changeRows}
 use Rattle.page.specs.Working.{changeBytes}
-use Rattle.page.proofs.Laws.{few-sheet, row-listed, row-unlisted}
+use Rattle.page.proofs.Laws.{row-listed, row-unlisted}
 use Rattle.page.proofs.changes.Statement.{statement}
 use Rattle.page.proofs.changes.Tie as tie
 
@@ -30,17 +31,17 @@ loop-holds c = (omega arith, omega (arith, c .put-bytes .ensures .next), λ list
 put-change-requires : tie.Need-put-change-requires Inv-loop μ-loop
 put-change-requires c κs =
     let start = c .before .before .before .before .before .before .before .before .before .before .before in
-    omega (arith, few-sheet (start .args .kind))
+    omega (arith, few (start .args .kind) .cells)
 
 add-at : tie.Need-add-at Inv-loop μ-loop
 add-at c =
     let start = c .before .before .before .before .before .before .before .before .before .before .before .before in
-    omega (arith, few-sheet (start .args .kind))
+    omega (arith, few (start .args .kind) .cells)
 
 add-cell : tie.Need-add-cell Inv-loop μ-loop
 add-cell c =
     let start = c .before .before .before .before .before .before .before .before .before .before in
-    omega (arith, few-sheet (start .args .kind))
+    omega (arith, few (start .args .kind) .cells)
 
 loop-again : tie.Need-loop-again Inv-loop μ-loop
 loop-again c =
@@ -48,7 +49,7 @@ loop-again c =
     let loop = c .before .before .before .loop in
     let start = c .before .before .before .before .before .before .before .before .before .before in
     let n = loop .cell in
-    let few = few-sheet (start .args .kind) in
+    let room = few (start .args .kind) .cells in
     ⊎-elim
     (λ w. (
       omega arith,

@@ -1,12 +1,13 @@
 -- By the part of the sheet that the cell stands in; then what each call promises.
 use Prim.Native.Nat.{_-_}
 use native.Mathlib.Nat.{mod-lt}
+use Rattle.layout.proofs.Laws.{few}
 use Rattle.layout.specs.Sheet.{linesFrom}
 use native.Mathlib.Omega.{arith}
 use borrow.Author.Tests.{lt-ltb, le-ltb}
 use borrow.Author.Needs.{needs}
 use Rattle.page_stars.specs.Stars.{starred}
-use Rattle.page_stars.proofs.Laws.{with-times, some-totals, few-lines, approach-of, pair-of}
+use Rattle.page_stars.proofs.Laws.{with-times, approach-of, pair-of}
 use Rattle.page_stars.proofs.is_starred.Statement.{statement}
 use Rattle.page_stars.proofs.is_starred.Tie as tie
 
@@ -24,7 +25,7 @@ add-is-line-starred : tie.Need-add-is-line-starred
 add-is-line-starred c =
     let args = c .before .before .before .before .before .before .args in
     let some = with-times (args .kind) in
-    omega (arith, few-lines (args .kind), mod-lt (args .cell - linesFrom) {m = c .lines .result} (omega arith))
+    omega (arith, few (args .kind) .lines, mod-lt (args .cell - linesFrom) {m = c .lines .result} (omega arith))
 
 is-line-starred-requires : tie.Need-is-line-starred-requires
 is-line-starred-requires c κs =
@@ -34,12 +35,12 @@ is-line-starred-requires c κs =
 div-is-picked : tie.Need-div-is-picked
 div-is-picked c =
     let start = c .before .before .before .before .before .before .before in
-    omega (arith, some-totals (start .args .kind))
+    omega (arith, few (start .args .kind) .some-pair)
 
 rem-is-picked : tie.Need-rem-is-picked
 rem-is-picked c =
     let start = c .before .before .before .before .before .before .before in
-    omega (arith, some-totals (start .args .kind))
+    omega (arith, few (start .args .kind) .some-pair)
 
 is-picked-requires : tie.Need-is-picked-requires
 is-picked-requires c κs =
