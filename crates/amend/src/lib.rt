@@ -1,4 +1,6 @@
 // Entries of a sheet amended: some together, or one.
+#![tactic(auto)]
+
 ghost use Rattle.std.specs.Prelude.{◌≡◌, length};
 ghost use Rattle.answers.specs.declared.Answer.TheVariants.{Accepted};
 ghost use Rattle.layout.specs.Sheet.{sheet_count};

@@ -1,4 +1,6 @@
 // What an amendment of one entry reaches, on a sheet of either kind.
+#![tactic(auto)]
+
 ghost use Rattle.std.specs.Prelude.{◌≡◌, true, ◌+◌, ◌/◌, ◌≤◌, ◌<◌, min, length};
 ghost use Rattle.layout.specs.Entries.{approach_count, cycle_entry, entry_count};
 ghost use Rattle.layout.specs.Sheet.{line_count, lines_of, pair_of, sheet_count};
@@ -10,7 +12,7 @@ use kinds::Kind;
 use layout::Worksheet;
 
 // Lines of an approach that the rules name together.
-#[derive(Drop)]
+#[derive(Clone, Copy)]
 pub enum Named {
     All,
     // of lost time and minimum green
@@ -28,7 +30,7 @@ const FACING_FROM: usize = 21;
 const FACING_TO: usize = 26;
 
 // What an amendment of an entry reaches, besides the entry itself and the last cells.
-#[derive(Drop)]
+#[derive(Clone, Copy)]
 pub struct Reach {
     pub own: Named,
     // the lines of the approach opposite that look at it

@@ -1,6 +1,8 @@
 // Changes of a sheet's entries that are made together: judged as all would stand, and every cell that one of them reaches renewed.
 //
 // They come as one list: an entry, its new value, the next entry and so on.
+#![tactic(auto)]
+
 ghost use Rattle.std.specs.Prelude.{◌≡◌, ◌≤◌, length};
 ghost use Rattle.layout.specs.Entries.{entry_count};
 ghost use Rattle.layout.specs.Sheet.{sheet_count};

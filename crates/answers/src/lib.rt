@@ -1,9 +1,11 @@
 // What a call answers: accepted, or a refusal with its place.
+#![tactic(auto)]
+
 ghost use Rattle.std.specs.Prelude.{◌≡◌};
 ghost use Rattle.answers.specs.Answers.{refusal_number, refusal_place, number_of, place_of};
 
 // Why a call says no, in the order in which the reasons are asked.
-#[derive(Drop)]
+#[derive(Clone, Copy)]
 pub enum Refusal {
     Size,
     Entry,
@@ -18,7 +20,7 @@ pub enum Refusal {
 }
 
 // What a refusal's place counts.
-#[derive(Drop)]
+#[derive(Clone, Copy)]
 pub enum Place {
     OfNothing,
     OfEntries,
@@ -29,7 +31,7 @@ pub enum Place {
     OfStudy,
 }
 
-#[derive(Drop)]
+#[derive(Clone, Copy)]
 pub enum Answer {
     Accepted,
     // The refusal, and its place.

@@ -1,4 +1,6 @@
 // What a diamond's page shows: both sheets, the record's own numbers, the cells, and what the ratio of each storage is told by.
+#![tactic(auto)]
+
 ghost use Rattle.std.specs.Prelude.{◌≡◌, ◌++◌, ◌+◌, ◌*◌, ◌<◌, ◌≤◌, cond, length, drop};
 ghost use Rattle.answers.specs.declared.Answer.TheVariants.{Accepted};
 ghost use Rattle.lists.specs.Lists.{over};

@@ -1,4 +1,6 @@
 // The form of a diamond's printed page: tables of its rows, and which number of the page's list stands in a column of a row.
+#![tactic(auto)]
+
 ghost use Rattle.std.specs.Prelude.{◌≡◌, ◌≤◌, ◌<◌};
 ghost use Rattle.layout.specs.Entries.{movement_count};
 ghost use Rattle.layout.specs.Diamond.{side_count, side_times};

@@ -1,4 +1,6 @@
 // A diamond's record judged: the first refusal that applies, or acceptance.
+#![tactic(auto)]
+
 ghost use Rattle.std.specs.Prelude.{◌≡◌, ◌≤◌, length};
 ghost use Rattle.answers.specs.Answers.{place_of};
 ghost use Rattle.layout.specs.Entries.{entry_count};

@@ -1,4 +1,6 @@
 // A diamond's printed page, byte by byte, from the list of the page's numbers.
+#![tactic(auto)]
+
 ghost use Rattle.std.specs.Prelude.{◌≡◌, ◌≤◌, ◌<◌, length};
 ghost use Rattle.layout.specs.Diamond.{side_count, side_times};
 ghost use Rattle.page_fields.specs.Fields.{field_width};

@@ -1,4 +1,6 @@
 // The timing plans of a diamond: isolated times, overlaps, Table 6-4, which plan is picked, the ICU and its letter.
+#![tactic(auto)]
+
 ghost use Rattle.std.specs.Prelude.{◌≡◌, Bool, ◌≤◌, min};
 ghost use Rattle.kinds.specs.declared.Kind.TheVariants.{Cycle as CycleKind, TravelTime as TravelKind};
 ghost use Rattle.kinds.specs.Kinds.{Within};
@@ -18,7 +20,7 @@ pub const SIDES_CELLS: usize = 4 * SIDES;
 pub const BEST_CELLS: usize = PLANS + 4;
 
 // Leading alternate, lagging and lead-lag; BLANK where a plan is not allowed.
-#[derive(Drop)]
+#[derive(Clone, Copy)]
 pub struct Plans {
     pub leading: Ms,
     pub lagging: Ms,

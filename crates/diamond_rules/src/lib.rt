@@ -1,6 +1,8 @@
 // A diamond interchange on an east-west arterial: what a side of it is, and its junctions as parts of the record.
 //
 // The definitions of the record, the worksheet's lines and the cells stand in specs/.
+#![tactic(auto)]
+
 ghost use Rattle.std.specs.Prelude.{◌≡◌, length};
 ghost use Rattle.layout.specs.Entries.{entry_count};
 ghost use Rattle.layout.specs.Diamond.{record_count};
@@ -9,7 +11,7 @@ ghost use Rattle.diamond_rules.specs.Record.{west, east};
 use units::Ms;
 
 // The interchange times of the west junction or of the east.
-#[derive(Drop)]
+#[derive(Clone, Copy)]
 pub struct Side {
     // along the arterial from outside
     pub through: Ms,

@@ -1,4 +1,6 @@
 // The interchange times of a diamond's sides: the adjusted times of lines 16–18, but for free rights.
+#![tactic(auto)]
+
 ghost use Rattle.std.specs.Prelude.{◌≡◌, cond, ◌<◌, eqb};
 ghost use Rattle.answers.specs.declared.Answer.TheVariants.{Accepted};
 ghost use Rattle.layout.specs.Entries.{approach_count};
@@ -14,7 +16,7 @@ use layout::Worksheet;
 use units::Ms;
 
 // The interchange times of an approach.
-#[derive(Drop)]
+#[derive(Clone, Copy)]
 struct Served {
     left: Ms,
     through: Ms,

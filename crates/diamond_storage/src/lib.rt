@@ -1,4 +1,6 @@
 // Whether a diamond's lefts find room: the ratio of the 90th percentile volume of a cycle to the storage, without roots.
+#![tactic(auto)]
+
 ghost use Rattle.std.specs.Prelude.{◌≡◌, ◌*◌, ◌≤◌, ◌<◌};
 ghost use Rattle.answers.specs.declared.Answer.TheVariants.{Accepted};
 ghost use Rattle.layout.specs.Entries.{approach_count, left};

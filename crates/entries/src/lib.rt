@@ -1,4 +1,6 @@
 // The entries judged: the first refusal that applies, or acceptance.
+#![tactic(auto)]
+
 ghost use Rattle.std.specs.Prelude.{◌≡◌, true, ◌+◌, ◌<◌, ◌≤◌, length, eqb};
 ghost use Rattle.answers.specs.declared.Answer.TheVariants.{Accepted};
 ghost use Rattle.kinds.specs.Kinds.{in_range, movement_kind, approach_kind};
@@ -14,7 +16,7 @@ use kinds::{Group, Kind};
 use layout::Worksheet;
 
 // What judging can find wrong, in the order in which it is looked for.
-#[derive(Drop)]
+#[derive(Clone, Copy)]
 pub enum Fault {
     // an entry outside its range
     Range,

@@ -1,4 +1,6 @@
 // The library's calls, for C and Rust to link. None of them asks anything of its caller.
+#![tactic(auto)]
+
 ghost use Rattle.std.specs.Prelude.{◌≡◌};
 ghost use Rattle.layout.specs.declared.Worksheet.TheVariants.{Junction, Point};
 ghost use Rattle.icu.specs.Told.{told};
@@ -11,7 +13,7 @@ use layout::Worksheet;
 
 // Number 0 is accepted, with place 0; else the refusal's number and place.
 #[repr(C)]
-#[derive(Drop)]
+#[derive(Clone, Copy)]
 pub struct IcuAnswer {
     pub number: u32,
     pub place: u32,

@@ -1,1 +1,2 @@
 // The theorems that everything else serves, in proofs/Theorems.antt.
+#![tactic(auto)]

@@ -1,5 +1,7 @@
 // Changes entries of a site of a study file, and prints every cell of its sheet that changes. What is printed, written and
 // said is the one call's to promise; the rest is input and output.
+#![tactic(auto)]
+
 use libc::STDERR_FILENO;
 use program_outcome::{AREA_BYTES, Call, Input, Lengths};
 

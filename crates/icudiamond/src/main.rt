@@ -1,5 +1,7 @@
 // Prints the worksheet of a diamond interchange, whose junctions stand in two texts. What is printed and said is the one call's to
 // promise; the rest is input and output.
+#![tactic(auto)]
+
 use program_diamond::{DiamondCall, PRINTED_BYTES};
 use program_outcome::{AREA_BYTES, Input, Lengths, SAID_BYTES};
 use program_record::{EAST, Files, WEST};

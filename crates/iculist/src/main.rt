@@ -1,5 +1,7 @@
 // Lists a study file, on standard input or named, to standard output. What is printed and said is the one call's to promise; the
 // rest is input and output.
+#![tactic(auto)]
+
 use layout::Worksheet;
 use libc::STDIN_FILENO;
 use program_list::PRINTED_BYTES;

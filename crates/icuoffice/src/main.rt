@@ -1,5 +1,7 @@
 // Keeps an open study that offices share: makes it, adds a junction, changes an entry, prints a sheet. What is printed, written
 // and said is the calls' to promise; the rest is input and output. Who changes a study holds its lock.
+#![tactic(auto)]
+
 use open_file::OPEN_BYTES;
 use program_office::Job;
 use program_open::{STUDY, TEXT};

@@ -1,5 +1,7 @@
 // Prints the worksheet of a junction or of a single point: of its text, of a site of a study file, or of all its sites. What is
 // printed and said is the calls' to promise; the rest is input and output.
+#![tactic(auto)]
+
 use program_outcome::{AREA_BYTES, Call, Input, Lengths, SAID_BYTES};
 use program_sheet::PRINTED_BYTES;
 

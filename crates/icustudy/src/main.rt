@@ -1,5 +1,7 @@
 // Makes a study file of junctions' texts, prints a study's sites as texts, and a text to begin a single point interchange with, and
 // writes a study of before as one of today. What is printed, written and said is the calls' to promise; the rest is input and output.
+#![tactic(auto)]
+
 use program_make::ALL_ENTRIES;
 use program_outcome::{AREA_BYTES, SAID_BYTES};
 use program_study::{Job, STUDY};

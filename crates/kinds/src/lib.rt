@@ -3,6 +3,8 @@
 // A limit is typed here, at its kind, and everything else asks the kind. A value of a kind is made here too: by `new`, of a
 // number that the kind takes, which it keeps as it is, or by `usual`. Each kind has a second field of no content that no other
 // crate can fill, so no other crate makes a value without them; the first is there to be read.
+#![tactic(auto)]
+
 ghost use Rattle.std.specs.Prelude.{◌≡◌, true, ◌<◌};
 ghost use Rattle.layout.specs.Entries.{movement_entries, approach_entries, group_count};
 ghost use Rattle.kinds.specs.Kinds.{limits_of, in_range, movement_kind, approach_kind, kind_at, group_at, group_of};
@@ -10,7 +12,7 @@ ghost use Rattle.kinds.specs.Kinds.{limits_of, in_range, movement_kind, approach
 use units::{Ms, Vph};
 
 // From, to, and the value that is usual, which may stand apart from the others.
-#[derive(Drop)]
+#[derive(Clone, Copy)]
 pub struct Limits {
     pub least: u32,
     pub most: u32,
@@ -18,7 +20,7 @@ pub struct Limits {
 }
 
 // Lanes of a movement.
-#[derive(Drop)]
+#[derive(Clone, Copy)]
 pub struct Lanes(pub u32, ());
 
 impl Lanes {
@@ -43,7 +45,7 @@ impl Lanes {
 }
 
 // Vehicles per hour of a movement.
-#[derive(Drop)]
+#[derive(Clone, Copy)]
 pub struct Volume(pub Vph, ());
 
 impl Volume {
@@ -68,7 +70,7 @@ impl Volume {
 }
 
 // Ideal flow of one lane of a movement.
-#[derive(Drop)]
+#[derive(Clone, Copy)]
 pub struct IdealFlow(pub Vph, ());
 
 impl IdealFlow {
@@ -93,7 +95,7 @@ impl IdealFlow {
 }
 
 // Time that a movement loses as it starts and clears.
-#[derive(Drop)]
+#[derive(Clone, Copy)]
 pub struct LostTime(pub Ms, ());
 
 impl LostTime {
@@ -118,7 +120,7 @@ impl LostTime {
 }
 
 // The least green of a movement.
-#[derive(Drop)]
+#[derive(Clone, Copy)]
 pub struct MinimumGreen(pub Ms, ());
 
 impl MinimumGreen {
@@ -143,7 +145,7 @@ impl MinimumGreen {
 }
 
 // What the lanes of a movement carry of one lane each, as it was measured, in thousandths; 0, the usual value, for the table's.
-#[derive(Drop)]
+#[derive(Clone, Copy)]
 pub struct LaneFactor(pub u32, ());
 
 impl LaneFactor {
@@ -168,7 +170,7 @@ impl LaneFactor {
 }
 
 // 1 where the approach has a lane shared by left and through.
-#[derive(Drop)]
+#[derive(Clone, Copy)]
 pub struct SharedLane(pub u32, ());
 
 impl SharedLane {
@@ -193,7 +195,7 @@ impl SharedLane {
 }
 
 // Pedestrians per hour who cross with the approach's through.
-#[derive(Drop)]
+#[derive(Clone, Copy)]
 pub struct Pedestrians(pub u32, ());
 
 impl Pedestrians {
@@ -218,7 +220,7 @@ impl Pedestrians {
 }
 
 // 1 where those pedestrians have a button.
-#[derive(Drop)]
+#[derive(Clone, Copy)]
 pub struct PushButton(pub u32, ());
 
 impl PushButton {
@@ -243,7 +245,7 @@ impl PushButton {
 }
 
 // Time that those pedestrians take to cross.
-#[derive(Drop)]
+#[derive(Clone, Copy)]
 pub struct PedestrianTime(pub Ms, ());
 
 impl PedestrianTime {
@@ -268,7 +270,7 @@ impl PedestrianTime {
 }
 
 // 1 where the right turn leaves into a lane of its own.
-#[derive(Drop)]
+#[derive(Clone, Copy)]
 pub struct FreeRight(pub u32, ());
 
 impl FreeRight {
@@ -293,7 +295,7 @@ impl FreeRight {
 }
 
 // The reference cycle, in seconds.
-#[derive(Drop)]
+#[derive(Clone, Copy)]
 pub struct Cycle(pub u32, ());
 
 impl Cycle {
@@ -318,7 +320,7 @@ impl Cycle {
 }
 
 // Vehicles that find room between the junctions of a diamond. None is usual: the least stands for it.
-#[derive(Drop)]
+#[derive(Clone, Copy)]
 pub struct Storage(pub u32, ());
 
 impl Storage {
@@ -343,7 +345,7 @@ impl Storage {
 }
 
 // Time that a vehicle takes from one junction of a diamond to the other.
-#[derive(Drop)]
+#[derive(Clone, Copy)]
 pub struct TravelTime(pub Ms, ());
 
 impl TravelTime {
@@ -367,7 +369,7 @@ impl TravelTime {
     }
 }
 
-#[derive(Drop)]
+#[derive(Clone, Copy)]
 pub enum Kind {
     Lanes,
     Volume,
@@ -487,7 +489,7 @@ impl Kind {
 }
 
 // The three movements of an approach.
-#[derive(Drop)]
+#[derive(Clone, Copy)]
 pub enum Group {
     Left,
     Through,

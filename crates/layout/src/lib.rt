@@ -2,6 +2,8 @@
 //
 // The definitions of the same names in specs/ say what the rules say; each function that leans on a number here is proved
 // against the definition.
+#![tactic(auto)]
+
 ghost use Rattle.std.specs.Prelude.{◌≡◌};
 ghost use Rattle.layout.specs.Sheet.{line_count, pair_cells, pairs_from, last_from, sheet_count, beside_numbers};
 
@@ -57,7 +59,7 @@ pub const CYCLE_ENTRY: usize = APPROACHES_FROM + APPROACH_ENTRIES * APPROACHES;
 pub const ENTRIES: usize = CYCLE_ENTRY + 1;
 
 // A sheet's kind: the book's two worksheets with entries of their own.
-#[derive(Drop)]
+#[derive(Clone, Copy)]
 pub enum Worksheet {
     Junction,
     // a single point interchange, protected phasing only

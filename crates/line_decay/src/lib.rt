@@ -1,4 +1,6 @@
 // The decay number: e^(-m/7200) in billionths.
+#![tactic(auto)]
+
 ghost use Rattle.std.specs.Prelude.{◌≡◌, ◌+◌, ◌*◌, ◌/◌, ◌<◌, ◌≤◌, eqb};
 ghost use Rattle.line_decay.specs.Decay.{term, turns, decay_number};
 

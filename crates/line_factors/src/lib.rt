@@ -1,4 +1,6 @@
 // The lane factors, in thousandths: the table's, and those that were measured.
+#![tactic(auto)]
+
 ghost use Rattle.std.specs.Prelude.{◌≡◌, ◌<◌, ◌≤◌};
 ghost use Rattle.layout.specs.Entries.{group_count};
 ghost use Rattle.kinds.specs.declared.Kind.TheVariants.{Lanes as LaneKind, LaneFactor as FactorKind};

@@ -1,4 +1,6 @@
 // Lines 1–9 of an approach: the volumes of its groups, and the flows that serve them.
+#![tactic(auto)]
+
 ghost use Rattle.std.specs.Prelude.{◌≡◌, cond, ◌≤◌};
 ghost use Rattle.kinds.specs.declared.Kind.TheVariants.{Lanes as LaneKind, IdealFlow, LaneFactor as FactorKind};
 ghost use Rattle.kinds.specs.declared.Group.TheVariants.{Left, Through};

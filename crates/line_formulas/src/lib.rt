@@ -1,4 +1,6 @@
 // Formulas that several lines share: a time from a volume and its flow, and the two ways in which a time is adjusted.
+#![tactic(auto)]
+
 ghost use Rattle.std.specs.Prelude.{◌≡◌, ◌*◌, ◌+◌, ◌≤◌, max};
 ghost use Rattle.units.specs.Unit.{flow_unit, whole};
 ghost use Rattle.kinds.specs.declared.Kind.TheVariants.{LostTime, MinimumGreen, Cycle as CycleKind};

@@ -1,4 +1,6 @@
 // Lines 19–22: the heaviest lane, its share of lefts, and what that lane carries through oncoming traffic.
+#![tactic(auto)]
+
 ghost use Rattle.std.specs.Prelude.{◌≡◌, ◌+◌, ◌-◌, ◌*◌, ◌/◌, ◌^◌, ◌≤◌, ◌<◌};
 ghost use Rattle.units.specs.Rounding.{up};
 ghost use Rattle.kinds.specs.declared.Kind.TheVariants.{Lanes as LaneKind};

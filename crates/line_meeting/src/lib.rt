@@ -1,4 +1,6 @@
 // What the oncoming approach does to this one: its share of lefts, and which permitted options it allows.
+#![tactic(auto)]
+
 ghost use Rattle.std.specs.Prelude.{◌≡◌};
 ghost use Rattle.procedure.specs.Lines.{single, left_share, allowed_a};
 ghost use Rattle.procedure.specs.Ranges.{Fair};

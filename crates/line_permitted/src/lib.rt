@@ -1,4 +1,6 @@
 // Lines 23–26: lefts that find their way through oncoming traffic.
+#![tactic(auto)]
+
 ghost use Rattle.std.specs.Prelude.{◌≡◌, cond, ◌+◌, ◌*◌, ◌≤◌, ◌<◌, eqb};
 ghost use Rattle.units.specs.Rounding.{up};
 ghost use Rattle.units.specs.Unit.{flow_unit, whole};

@@ -1,4 +1,6 @@
 // Lines 27 and 28: the approach by itself, with every movement in one phase.
+#![tactic(auto)]
+
 ghost use Rattle.std.specs.Prelude.{◌≡◌};
 ghost use Rattle.procedure.specs.Ranges.{Fair, FairCycle};
 ghost use Rattle.procedure.specs.Lines.{line27};

@@ -1,8 +1,10 @@
 // What one stage of the lines hands to the next: a value for each line, in its unit.
+#![tactic(auto)]
+
 use units::{Flow, Ms, Vph};
 
 // Lines 1–3 with the folded volumes and the through volume without folded lefts.
-#[derive(Drop)]
+#[derive(Clone, Copy)]
 pub struct Volumes {
     pub left: Vph,
     pub through: Vph,
@@ -13,7 +15,7 @@ pub struct Volumes {
 }
 
 // Lines 4–9.
-#[derive(Drop)]
+#[derive(Clone, Copy)]
 pub struct Flows {
     pub turning: u32,
     pub left: Flow,
@@ -24,7 +26,7 @@ pub struct Flows {
 }
 
 // Lines 10–12.
-#[derive(Drop)]
+#[derive(Clone, Copy)]
 pub struct Walking {
     pub right: Ms,
     pub through: Ms,
@@ -32,7 +34,7 @@ pub struct Walking {
 }
 
 // Lines 13–18.
-#[derive(Drop)]
+#[derive(Clone, Copy)]
 pub struct Times {
     pub left: Ms,
     pub through: Ms,
@@ -43,7 +45,7 @@ pub struct Times {
 }
 
 // Lines 1–18, which look at the approach alone.
-#[derive(Drop)]
+#[derive(Clone, Copy)]
 pub struct First {
     pub volumes: Volumes,
     pub flows: Flows,
@@ -52,7 +54,7 @@ pub struct First {
 }
 
 // What the oncoming approach does to this one.
-#[derive(Drop)]
+#[derive(Clone, Copy)]
 pub struct Meeting {
     pub share: u32,
     pub alloweda: bool,
@@ -60,7 +62,7 @@ pub struct Meeting {
 }
 
 // Lines 19–22.
-#[derive(Drop)]
+#[derive(Clone, Copy)]
 pub struct LeftLane {
     pub heaviest: Vph,
     pub share: u32,
@@ -69,7 +71,7 @@ pub struct LeftLane {
 }
 
 // Lines 23–26.
-#[derive(Drop)]
+#[derive(Clone, Copy)]
 pub struct Permitted {
     pub a: Ms,
     pub b: Ms,
@@ -78,14 +80,14 @@ pub struct Permitted {
 }
 
 // Lines 27 and 28.
-#[derive(Drop)]
+#[derive(Clone, Copy)]
 pub struct Split {
     pub largest: Ms,
     pub weighted: Ms,
 }
 
 // Lines 19–28, which look across the street.
-#[derive(Drop)]
+#[derive(Clone, Copy)]
 pub struct Later {
     pub lane: LeftLane,
     pub permitted: Permitted,
@@ -115,7 +117,7 @@ impl Later {
 }
 
 // All lines of an approach.
-#[derive(Drop)]
+#[derive(Clone, Copy)]
 pub struct Lines {
     pub first: First,
     pub later: Later,

@@ -1,4 +1,6 @@
 // The times that the groups of an approach take: lines 13–18.
+#![tactic(auto)]
+
 ghost use Rattle.std.specs.Prelude.{◌≡◌, cond, ◌≤◌, eqb};
 ghost use Rattle.kinds.specs.declared.Kind.TheVariants.{LostTime, MinimumGreen};
 ghost use Rattle.kinds.specs.Kinds.{Within};

@@ -1,4 +1,6 @@
 // What those who walk take from those who turn right: lines 10–12 of an approach.
+#![tactic(auto)]
+
 ghost use Rattle.std.specs.Prelude.{◌≡◌, ◌*◌, ◌≤◌, eqb};
 ghost use Rattle.units.specs.Rounding.{up};
 ghost use Rattle.kinds.specs.declared.Kind.TheVariants.{Pedestrians as Walkers};

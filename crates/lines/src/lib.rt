@@ -1,4 +1,6 @@
 // The lines of an approach: 1–18, which look at the approach alone, then 19–28, which look across the street.
+#![tactic(auto)]
+
 ghost use Rattle.std.specs.Prelude.{◌≡◌};
 ghost use Rattle.procedure.specs.Ranges.{Fair, FairCycle};
 ghost use Rattle.line_stages.specs.Stages.{volumes_of, first_of, later_of, later_for, lines_of};

@@ -1,4 +1,6 @@
 // The file of an open study: four bytes that open it, the owners of its places, and their blocks.
+#![tactic(auto)]
+
 ghost use Rattle.std.specs.Prelude.{◌≡◌, true, ◌+◌, ◌*◌, ◌≤◌, length, drop};
 ghost use Rattle.text.specs.Text.{Placed};
 ghost use Rattle.study_numbers.specs.Numbers.{number_bytes, numbers_in};

@@ -1,4 +1,6 @@
 // What an office's call on an open study is judged by, in the order 1, 2, 9, 3 to 5; FULL is told by the place that an add finds.
+#![tactic(auto)]
+
 ghost use Rattle.std.specs.Prelude.{◌≡◌, ◌≤◌, ◌<◌, length, set};
 ghost use Rattle.layout.specs.Entries.{entry_count};
 ghost use Rattle.layout.specs.Open.{place_count, blocks_count};

@@ -1,6 +1,8 @@
 // An open study that offices share: the entries of a site as a part of the blocks.
 //
 // The definitions of what each call on it answers and leaves stand in specs/.
+#![tactic(auto)]
+
 ghost use Rattle.std.specs.Prelude.{◌≡◌, ◌<◌, length};
 ghost use Rattle.layout.specs.Open.{place_count, blocks_count};
 ghost use Rattle.open_rules.specs.Open.{block_at};

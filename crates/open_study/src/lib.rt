@@ -1,4 +1,6 @@
 // An open study that offices share: a site added, amended in its block, or read. Nothing is asked of the caller.
+#![tactic(auto)]
+
 ghost use Rattle.std.specs.Prelude.{◌≡◌, ◌+◌, ◌<◌, length, set};
 ghost use Rattle.lists.specs.Lists.{over};
 ghost use Rattle.layout.specs.Entries.{entry_count};

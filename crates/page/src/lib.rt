@@ -1,4 +1,6 @@
 // A sheet of a kind as a printed worksheet, and what an amendment changed, byte by byte.
+#![tactic(auto)]
+
 ghost use Rattle.std.specs.Prelude.{◌≡◌, ◌+◌, ◌≤◌, ◌<◌, length};
 ghost use Rattle.lists.specs.Lists.{table, over};
 ghost use Rattle.text.specs.Text.{Placed};

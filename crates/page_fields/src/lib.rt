@@ -1,4 +1,6 @@
 // A field of the printed page: a number with its decimals, or a text, at the field's right end. Places count from the right.
+#![tactic(auto)]
+
 ghost use Rattle.std.specs.Prelude.{◌≡◌, ◌≤◌, ◌<◌};
 ghost use Rattle.page_fields.specs.Fields.{field_width, no_name, dropped, digit_byte, number_byte, decimals_of};
 ghost use Rattle.page_fields.specs.Fields.{field_text, pick_field, column_field, shown};

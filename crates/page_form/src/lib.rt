@@ -1,5 +1,7 @@
 // The form of the printed worksheet, over the kind of sheet: a table of its rows, and which cells stand in them: a sheet's, and
 // those beside it.
+#![tactic(auto)]
+
 ghost use Rattle.std.specs.Prelude.{◌≡◌, cond, ◌-◌, ◌≤◌, ◌<◌, ltb};
 ghost use Rattle.layout.specs.Entries.{approach_count};
 ghost use Rattle.page_form.specs.Form.{title_byte, unit_of, lines, pairs, rights, whole, beside, row_count, end_of, section_by};
@@ -154,7 +156,7 @@ const POINT_TITLES: [u8; POINT_TITLE_BYTES] = *b"no entry                     bo
     R  oncoming left               26 s";
 
 // Rows that go together. The cells of a column stand one after the other, a row each.
-#[derive(Drop)]
+#[derive(Clone, Copy)]
 pub struct Section {
     pub row: usize,
     pub cell: usize,
@@ -163,7 +165,7 @@ pub struct Section {
 }
 
 // What a section is found by.
-#[derive(Drop)]
+#[derive(Clone, Copy)]
 enum Counted {
     Rows,
     Cells,

@@ -1,4 +1,6 @@
 // Where a star stands on the page: beside the numbers that decide.
+#![tactic(auto)]
+
 ghost use Rattle.std.specs.Prelude.{◌≡◌, ◌<◌, ◌≤◌, get_or};
 ghost use Rattle.layout.specs.Entries.{approach_count};
 ghost use Rattle.layout.specs.declared.Worksheet.TheVariants.{Junction};

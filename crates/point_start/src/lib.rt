@@ -1,4 +1,6 @@
 // The entries that a single point interchange begins with.
+#![tactic(auto)]
+
 ghost use Rattle.std.specs.Prelude.{◌≡◌, length};
 ghost use Rattle.layout.specs.Entries.{entry_count};
 ghost use Rattle.point_start.specs.Start.{start_lost, start_of, start_at, start_entries, start_answer, started};

@@ -1,6 +1,8 @@
 // The procedure: what an approach is, and how it is read from the entries.
 //
 // The definitions of the lines, the pairs and the sheet stand in specs/.
+#![tactic(auto)]
+
 ghost use Rattle.std.specs.Prelude.{◌≡◌, ◌<◌};
 ghost use Rattle.answers.specs.declared.Answer.TheVariants.{Accepted};
 ghost use Rattle.layout.specs.Entries.{approach_count, movement_count};
@@ -13,7 +15,7 @@ use kinds::{
     Pedestrians, PushButton, SharedLane, Volume,
 };
 
-#[derive(Drop)]
+#[derive(Clone, Copy)]
 pub struct Movement {
     pub lanes: Lanes,
     pub volume: Volume,
@@ -23,7 +25,7 @@ pub struct Movement {
     pub measured: LaneFactor,
 }
 
-#[derive(Drop)]
+#[derive(Clone, Copy)]
 pub struct Approach {
     pub left: Movement,
     pub through: Movement,

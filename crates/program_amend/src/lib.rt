@@ -1,4 +1,6 @@
 // What `icuamend` prints, writes and says: one call, between reading and writing.
+#![tactic(auto)]
+
 ghost use Rattle.std.specs.Prelude.{◌≡◌, true, false, cond, ◌&&◌, [], ◌+◌, ◌≤◌, length};
 ghost use Rattle.answers.specs.Answers.{left_by};
 ghost use Rattle.answers.specs.declared.Answer.TheVariants.{Accepted};
@@ -40,7 +42,7 @@ const SITE: usize = 1;
 
 // What changes came to: the sheet's kind, the site, whether the study is to be kept, whether a change was made, and how many bytes are
 // said.
-#[derive(Drop)]
+#[derive(Clone, Copy)]
 pub struct Given {
     pub worksheet: Worksheet,
     pub site: u32,

@@ -1,4 +1,6 @@
 // The changes that `icuamend` is asked for, made one after the other; one that is not made is told and passed over.
+#![tactic(auto)]
+
 ghost use Rattle.std.specs.Prelude.{◌≡◌, ◌||◌, ◌+◌, ◌≤◌, ◌<◌, length, take, set};
 ghost use Rattle.layout.specs.Entries.{entry_count};
 ghost use Rattle.entries.specs.Judging.{judged_for};
@@ -34,7 +36,7 @@ const HEADING_BYTES: usize = 19;
 pub const SAID_BYTES: usize = MOST_CHANGES * (HEADING_BYTES + program_outcome::SAID_BYTES);
 
 // Which word of a change is wrong: its title, its kind or its value.
-#[derive(Drop)]
+#[derive(Clone, Copy)]
 pub enum Wrong {
     NoName,
     NoEntry,
@@ -42,14 +44,14 @@ pub enum Wrong {
 }
 
 // What the words of a change ask for: an entry's new value, unless one of them is wrong.
-#[derive(Drop)]
+#[derive(Clone, Copy)]
 pub enum Asked {
     Change(u32, u32),
     Unclear(Wrong),
 }
 
 // What a change comes to: an entry has its new value, or why not.
-#[derive(Drop)]
+#[derive(Clone, Copy)]
 pub enum Verdict {
     Made(u32, u32),
     Refused(Refusal, u32),
@@ -57,7 +59,7 @@ pub enum Verdict {
 }
 
 // What the changes so far came to: whether one was made, and how many bytes are said of those that were not.
-#[derive(Drop)]
+#[derive(Clone, Copy)]
 pub struct Done {
     pub made: bool,
     pub says: usize,

@@ -1,4 +1,6 @@
 // What `icudiamond` prints and says: one call, between reading and writing.
+#![tactic(auto)]
+
 ghost use Rattle.std.specs.Prelude.{◌≡◌, ◌++◌, ◌+◌, ◌≤◌, length, take};
 ghost use Rattle.diamond_rules.specs.Record.{judged_record};
 ghost use Rattle.diamond_beside.specs.Beside.{page_numbers};
@@ -27,7 +29,7 @@ pub const PRINTED_BYTES: usize = DIAMOND_BYTES + PAGE_BYTES;
 const ARGUMENTS: usize = 1 + program_record::WORDS;
 
 // How the program was called: how many arguments it has, and what reading its files came to.
-#[derive(Drop)]
+#[derive(Clone, Copy)]
 pub struct DiamondCall {
     pub arguments: usize,
     pub files: Files,

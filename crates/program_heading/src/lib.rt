@@ -1,4 +1,6 @@
 // The line over a printed sheet, which tells whose it is.
+#![tactic(auto)]
+
 ghost use Rattle.std.specs.Prelude.{◌≡◌, ◌++◌, ◌+◌, ◌≤◌, ◌<◌, length};
 ghost use Rattle.text.specs.Text.{Placed};
 ghost use Rattle.program_outcome.specs.Outcome.{word_most};
@@ -23,7 +25,7 @@ const SIDE_BYTES: usize = 7;
 pub const DIAMOND_BYTES: usize = 2 * (SIDE_BYTES + WORD_BYTES + 2 + text_titles::TITLE_MOST) + 2;
 
 // Which of a study's sites a page is of, from 0; how many there are; and whether the page follows another.
-#[derive(Drop)]
+#[derive(Clone, Copy)]
 pub struct Spot {
     pub site: u32,
     pub sites: u32,

@@ -1,6 +1,8 @@
 // Input and output: arguments and files in lent areas, and areas written out. What the system reads or writes, no promise
 // can say; what is read lies within its area. A file is written whole beside its place, and then takes its name. Where several
 // may change one file, the new one beside it has one name only, and is the lock.
+#![tactic(auto)]
+
 ghost use Rattle.std.specs.Prelude.{◌+◌, ◌≤◌, ◌<◌, length};
 ghost use Rattle.program_outcome.specs.Outcome.{word_most};
 ghost use Rattle.io.specs.Counts.{IsPrefixLen};

@@ -1,4 +1,6 @@
 // What `iculist` prints and says: one call, between reading and writing.
+#![tactic(auto)]
+
 ghost use Rattle.std.specs.Prelude.{◌≡◌, ◌≤◌, length};
 ghost use Rattle.text.specs.Text.{Placed};
 ghost use Rattle.study_listing.specs.Listing.{listing};

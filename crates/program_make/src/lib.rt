@@ -1,4 +1,6 @@
 // What `icustudy make` writes and says: a call for each text, and one that makes the file.
+#![tactic(auto)]
+
 ghost use Rattle.std.specs.Prelude.{◌≡◌, ◌*◌, ◌≤◌, length};
 ghost use Rattle.text.specs.Text.{Placed};
 ghost use Rattle.layout.specs.declared.Worksheet.TheVariants.{Junction};

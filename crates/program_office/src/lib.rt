@@ -1,5 +1,7 @@
 // What `icuoffice` is asked to do, what it tells at once, and what it gives where a new study is asked for: calls between
 // reading and writing.
+#![tactic(auto)]
+
 ghost use Rattle.std.specs.Prelude.{◌≡◌, [], ◌≤◌, length};
 ghost use Rattle.text.specs.Text.{Placed};
 ghost use Rattle.open_file.specs.File.{empty_file};
@@ -35,7 +37,7 @@ const OFFICE: usize = 1;
 
 const JOB: usize = 2;
 
-#[derive(Drop)]
+#[derive(Clone, Copy)]
 pub enum Job {
     New,
     Add,

@@ -1,4 +1,6 @@
 // What the jobs of `icuoffice` share: the words of a call, and the open study that it works on, or what is said where there is none.
+#![tactic(auto)]
+
 ghost use Rattle.std.specs.Prelude.{◌≡◌, true};
 ghost use Rattle.text.specs.Text.{Placed};
 ghost use Rattle.open_rules.specs.Open.{read_answer, read_sheet};
@@ -34,7 +36,7 @@ pub const VALUE: usize = 6;
 const NO_OFFICE: u32 = 0;
 
 // What stands where the study should be: a file, of which so many bytes were read; nothing; or what cannot be used, and why.
-#[derive(Drop)]
+#[derive(Clone, Copy)]
 pub enum Source {
     Bytes(usize),
     Absent,
@@ -42,7 +44,7 @@ pub enum Source {
 }
 
 // A study's owners and blocks; or how many bytes are said of why there is none.
-#[derive(Drop)]
+#[derive(Clone, Copy)]
 pub struct Opened {
     pub owners: [u32; PLACES],
     pub blocks: [u32; BLOCKS],

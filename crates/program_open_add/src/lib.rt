@@ -1,4 +1,6 @@
 // What `icuoffice STUDY OFFICE add TEXT` prints, writes and says: one call, between reading and writing.
+#![tactic(auto)]
+
 ghost use Rattle.std.specs.Prelude.{◌<◌};
 ghost use Rattle.layout.specs.Open.{place_count};
 ghost use Rattle.text.specs.Text.{Placed};
@@ -17,7 +19,7 @@ use program_target::Found;
 pub const PRINTED_BYTES: usize = 16;
 
 // What was found where the study is to be written again, and what reading the text came to.
-#[derive(Drop)]
+#[derive(Clone, Copy)]
 pub struct Files {
     pub study: Found,
     pub text: Input,

@@ -1,4 +1,6 @@
 // What `icuoffice STUDY OFFICE amend SITE NAME ENTRY VALUE` prints, writes and says: one call, between reading and writing.
+#![tactic(auto)]
+
 ghost use Rattle.std.specs.Prelude.{◌≡◌, []};
 ghost use Rattle.answers.specs.Answers.{left_by};
 ghost use Rattle.layout.specs.declared.Worksheet.TheVariants.{Junction};
@@ -21,7 +23,7 @@ use program_target::Found;
 pub const PRINTED_BYTES: usize = program_amend::PRINTED_BYTES;
 
 // An entry, and the value that it is to have.
-#[derive(Drop)]
+#[derive(Clone, Copy)]
 pub struct Change {
     pub entry: u32,
     pub value: u32,

@@ -1,4 +1,6 @@
 // What `icuoffice STUDY OFFICE read SITE` prints and says: one call, between reading and writing.
+#![tactic(auto)]
+
 ghost use Rattle.std.specs.Prelude.{◌≡◌, ◌≤◌, ◌<◌, length, take};
 ghost use Rattle.layout.specs.Entries.{entry_count};
 ghost use Rattle.layout.specs.Open.{place_count};

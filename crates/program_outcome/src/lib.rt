@@ -1,4 +1,6 @@
 // What one run of a program gives, in lent areas; and what every program says of a file.
+#![tactic(auto)]
+
 ghost use Rattle.std.specs.Prelude.{◌≡◌, ◌+◌, ◌≤◌, length, take};
 ghost use Rattle.text.specs.Text.{Placed};
 ghost use Rattle.program_outcome.specs.Outcome.{is_either, opening, named, remark_text, remarked};
@@ -7,14 +9,14 @@ ghost use Rattle.program_outcome.specs.Working.{only_said, only_printed, opening
 use layout::Worksheet;
 
 // What reading a file into an area came to: how many bytes were read.
-#[derive(Drop)]
+#[derive(Clone, Copy)]
 pub enum Input {
     Read(usize),
     Failed,
 }
 
 // What is said of an argument, or of the program itself.
-#[derive(Drop)]
+#[derive(Clone, Copy)]
 pub enum Remark {
     Unread,
     Unwritten,
@@ -31,7 +33,7 @@ pub enum Remark {
 
 // How a program was called: which worksheet its first word asks for; how many arguments it has past that word, its own name among them;
 // and what reading its file came to.
-#[derive(Drop)]
+#[derive(Clone, Copy)]
 pub struct Call {
     pub worksheet: Worksheet,
     pub arguments: usize,
@@ -39,7 +41,7 @@ pub struct Call {
 }
 
 // How many bytes are to be printed, to be written to a file, and to be said on standard error.
-#[derive(Drop)]
+#[derive(Clone, Copy)]
 pub struct Lengths {
     pub prints: usize,
     pub writes: usize,

@@ -1,4 +1,6 @@
 // A page of entries under its heading, and what is said where they are refused.
+#![tactic(auto)]
+
 ghost use Rattle.std.specs.Prelude.{◌++◌, ◌+◌, ◌≤◌, ◌<◌, length, take};
 ghost use Rattle.layout.specs.declared.Worksheet.TheVariants.{Junction};
 ghost use Rattle.layout.specs.Sheet.{page_count};

@@ -1,4 +1,6 @@
 // The record that the arguments of `icudiamond` make, or what is said where they make none.
+#![tactic(auto)]
+
 ghost use Rattle.std.specs.Prelude.{◌≡◌, ◌+◌, ◌≤◌, ◌<◌, set, length};
 ghost use Rattle.lists.specs.Lists.{over};
 ghost use Rattle.layout.specs.declared.Worksheet.TheVariants.{Junction};
@@ -21,7 +23,7 @@ use text_reader::Reading;
 use text_values::Value;
 
 // What reading the texts of both junctions came to.
-#[derive(Drop)]
+#[derive(Clone, Copy)]
 pub struct Files {
     pub west: Input,
     pub east: Input,

@@ -1,4 +1,6 @@
 // What a program says where a call or a text is refused.
+#![tactic(auto)]
+
 ghost use Rattle.std.specs.Prelude.{◌≤◌, take};
 ghost use Rattle.text.specs.Text.{Placed};
 ghost use Rattle.text_refusals.specs.Refusals.{answer_text, reading_text};

@@ -1,4 +1,6 @@
 // What `icusheet` prints and says: a call for what is given once, and one for each page of a study; between reading and writing.
+#![tactic(auto)]
+
 ghost use Rattle.std.specs.Prelude.{◌≡◌, ◌≤◌, length};
 ghost use Rattle.text.specs.Text.{Placed};
 ghost use Rattle.text_reader.specs.Reader.{reading};

@@ -1,4 +1,6 @@
 // The site of a study file that an argument names.
+#![tactic(auto)]
+
 ghost use Rattle.std.specs.Prelude.{◌≡◌, ◌+◌, ◌≤◌, length};
 ghost use Rattle.text.specs.Text.{Placed};
 ghost use Rattle.program_outcome.specs.Outcome.{named};
@@ -11,7 +13,7 @@ use program_outcome::SAID_BYTES;
 // Past any site of a study: the largest number of 32 bits.
 const NO_SITE: u32 = (text_numbers::TOO_LARGE - 1) as u32;
 
-#[derive(Drop)]
+#[derive(Clone, Copy)]
 pub enum Sought {
     Site(u32),
     // The file has no such site: how many it has.

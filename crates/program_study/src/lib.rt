@@ -1,4 +1,6 @@
 // What `icustudy` is asked to do, and what `icustudy show` and `icustudy point` print and say: one call, between reading and writing.
+#![tactic(auto)]
+
 ghost use Rattle.std.specs.Prelude.{◌≡◌, ◌≤◌, length};
 ghost use Rattle.point_start.specs.Start.{start_entries};
 ghost use Rattle.text.specs.Text.{Placed};
@@ -31,7 +33,7 @@ pub const STUDY: usize = 1;
 
 const SITE: usize = 2;
 
-#[derive(Drop)]
+#[derive(Clone, Copy)]
 pub enum Job {
     Make,
     Show,

@@ -1,4 +1,6 @@
 // Whether a file may be written where another may stand: a study file may be replaced, anything else stays as it is.
+#![tactic(auto)]
+
 ghost use Rattle.text.specs.Text.{Placed};
 ghost use Rattle.program_target.specs.Target.{bytes_text, target_text};
 
@@ -7,7 +9,7 @@ use program_outcome::{AREA_BYTES, Remark, SAID_BYTES};
 
 // What was found where a file is to be written: nothing; a file, of which so many bytes were read; a symbolic link; or something
 // that is no file, or that cannot be read and written.
-#[derive(Drop)]
+#[derive(Clone, Copy)]
 pub enum Found {
     Absent,
     Bytes(usize),

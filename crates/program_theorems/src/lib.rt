@@ -1,1 +1,2 @@
 // The theorems of the programs' calls, in proofs/Theorems.antt.
+#![tactic(auto)]

@@ -1,4 +1,6 @@
 // What a program is asked for: in place of its work, how it is called, or its version; before it, which worksheet.
+#![tactic(auto)]
+
 ghost use Rattle.std.specs.Prelude.{◌≡◌, ◌≤◌, length};
 ghost use Rattle.text.specs.Text.{Placed};
 ghost use Rattle.program_wish.specs.Wish.{same, wish_of, version_text, worksheet_of, words_for, arguments_for};
@@ -6,7 +8,7 @@ ghost use Rattle.program_wish.specs.Working.{version_most};
 
 use layout::Worksheet;
 
-#[derive(Drop)]
+#[derive(Clone, Copy)]
 pub enum Wish {
     Help,
     Version,

@@ -1,4 +1,6 @@
 // The words that a program is called with, each ended by a byte 0, one after the other.
+#![tactic(auto)]
+
 ghost use Rattle.std.specs.Prelude.{◌≡◌, ◌+◌, ◌≤◌, length, drop};
 ghost use Rattle.program_words.specs.Words.{first_word, later_words, word_at};
 

@@ -1,4 +1,6 @@
 // The sheet filled from its entries.
+#![tactic(auto)]
+
 ghost use Rattle.std.specs.Prelude.{◌≡◌, ◌++◌, ◌+◌, ◌*◌, ◌<◌, ◌≤◌, length, take};
 ghost use Rattle.answers.specs.declared.Answer.TheVariants.{Accepted};
 ghost use Rattle.lists.specs.Lists.{over};

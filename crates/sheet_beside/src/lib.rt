@@ -1,4 +1,6 @@
 // What the engineers work by hand beside the sheet's cells: the left group's own lane, and what a right total adds.
+#![tactic(auto)]
+
 ghost use Rattle.std.specs.Prelude.{◌≡◌, ◌++◌, ◌+◌, ◌*◌, ◌/◌, ◌<◌, ◌≤◌, length, get_or, take, drop};
 ghost use Rattle.answers.specs.Answers.{left_by};
 ghost use Rattle.answers.specs.declared.Answer.TheVariants.{Accepted};

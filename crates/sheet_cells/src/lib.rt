@@ -1,4 +1,6 @@
 // The cells of a sheet: how many there must be. Where each stands is said in specs/ and proofs/.
+#![tactic(auto)]
+
 ghost use Rattle.std.specs.Prelude.{◌≡◌};
 ghost use Rattle.sheet_cells.specs.Cells.{sheet_answer};
 

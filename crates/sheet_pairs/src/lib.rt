@@ -1,4 +1,6 @@
 // The four cells of a pair of opposite approaches: protected, permitted, split, and the one that is picked.
+#![tactic(auto)]
+
 ghost use Rattle.std.specs.Prelude.{◌≡◌, cond, ◌||◌, [], ◌∷◌, ◌+◌, ◌≤◌, max, eqb, leb};
 ghost use Rattle.layout.specs.Sheet.{BLANK as blank};
 ghost use Rattle.procedure.specs.Pairs.{protected, picked, pair, pair_for, pick_of, by_pick};
@@ -14,7 +16,7 @@ use units::Ms;
 pub const BLANK: Ms = Ms(layout::BLANK);
 
 // The totals of a pair, and which of them is picked.
-#[derive(Drop)]
+#[derive(Clone, Copy)]
 pub struct Pair {
     pub protected: Ms,
     pub permitted: Ms,

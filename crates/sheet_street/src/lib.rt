@@ -1,4 +1,6 @@
 // A street: the lines of two opposite approaches, and the cells of their pair.
+#![tactic(auto)]
+
 ghost use Rattle.std.specs.Prelude.{◌≡◌, ◌||◌, ◌<◌, length};
 ghost use Rattle.answers.specs.declared.Answer.TheVariants.{Accepted};
 ghost use Rattle.layout.specs.Entries.{approach_count, entry_count};
@@ -10,7 +12,7 @@ use layout::Worksheet;
 use line_stages::Lines;
 use sheet_pairs::Pair;
 
-#[derive(Drop)]
+#[derive(Clone, Copy)]
 pub struct Street {
     pub one: Lines,
     pub other: Lines,

@@ -1,4 +1,6 @@
 // The last eight cells: right totals, combined, required, ICU and letter.
+#![tactic(auto)]
+
 ghost use Rattle.std.specs.Prelude.{◌≡◌, ◌+◌, ◌≤◌, max, eqb};
 ghost use Rattle.kinds.specs.declared.Kind.TheVariants.{Cycle as CycleKind};
 ghost use Rattle.kinds.specs.Kinds.{Within};
@@ -118,7 +120,7 @@ pub fn icu_of(required: Ms, cycle: Cycle) -> u32
 }
 
 // The right totals of the four approaches.
-#[derive(Drop)]
+#[derive(Clone, Copy)]
 pub struct Rights {
     pub eb: Ms,
     pub wb: Ms,

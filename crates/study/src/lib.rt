@@ -1,4 +1,6 @@
 // Study files: the calls of study_format, study_reader and study_writer, for the format of today and, to be read, that of before.
+#![tactic(auto)]
+
 ghost use Rattle.std.specs.Prelude.{◌≡◌, [], ◌≤◌, length};
 ghost use Rattle.lists.specs.Lists.{over};
 ghost use Rattle.layout.specs.Entries.{entry_count};

@@ -1,4 +1,6 @@
 // A site's entries as they were before movements had a measured lane factor, made into those of today.
+#![tactic(auto)]
+
 ghost use Rattle.std.specs.Prelude.{◌≡◌, ◌<◌, length};
 ghost use Rattle.layout.specs.Entries.{entry_count};
 ghost use Rattle.study_before.specs.Before.{entries_before, widened_at, widened};

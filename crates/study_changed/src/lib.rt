@@ -1,4 +1,6 @@
 // A study file of today with other entries for one of its sites.
+#![tactic(auto)]
+
 ghost use Rattle.std.specs.Prelude.{◌≡◌, ◌≤◌, length};
 ghost use Rattle.layout.specs.Entries.{entry_count};
 ghost use Rattle.answers.specs.declared.Answer.TheVariants.{Accepted};

@@ -2,6 +2,8 @@
 //
 // A format says which bytes open a file, how many entries a block has, and how many sites a file has at most; a file is
 // judged by its format.
+#![tactic(auto)]
+
 ghost use Rattle.std.specs.Prelude.{◌≡◌, ◌+◌, ◌*◌, ◌≤◌, ◌<◌, length};
 ghost use Rattle.study_numbers.specs.Numbers.{number_bytes, number_limit};
 ghost use Rattle.answers.specs.declared.Refusal.TheVariants.{File};
@@ -22,7 +24,7 @@ pub const OFFSETS_PLACE: usize = COUNT_PLACE + NUMBER_BYTES;
 // Where a file is refused that has too little room to be written.
 pub const ROOM_PLACE: usize = 4;
 
-#[derive(Drop)]
+#[derive(Clone, Copy)]
 pub struct Format {
     pub opening: [u8; NUMBER_BYTES],
     // The entries of a site's block.

@@ -1,4 +1,6 @@
 // The lines of a listing: one for a site, rated or refused, or the one of a bad file.
+#![tactic(auto)]
+
 ghost use Rattle.std.specs.Prelude.{◌≡◌, ◌+◌, ◌≤◌, length};
 ghost use Rattle.text.specs.Text.{Placed};
 ghost use Rattle.study_lines.specs.Lines.{letter_byte, phasing_byte, rated_line, refused_line, line_of, file_line};
@@ -10,7 +12,7 @@ use answers::Refusal;
 pub const LINE_BYTES: usize = 3 * (text::DIGITS_MOST + 1) + 1;
 
 // The ICU and its letter, and the picks of EB–WB and NB–SB.
-#[derive(Drop)]
+#[derive(Clone, Copy)]
 pub struct Rating {
     pub icu: u32,
     pub letter: u32,
@@ -19,7 +21,7 @@ pub struct Rating {
 }
 
 // What a site's line shows after its number.
-#[derive(Drop)]
+#[derive(Clone, Copy)]
 pub enum Site {
     Rated(Rating),
     // The refusal, and its place.

@@ -1,4 +1,6 @@
 // The listing of a study file: a line for each site, or one line for a bad file.
+#![tactic(auto)]
+
 ghost use Rattle.std.specs.Prelude.{◌≡◌, ◌+◌, ◌≤◌, length};
 ghost use Rattle.text.specs.Text.{Placed};
 ghost use Rattle.study_listing.specs.Listing.{site_of, site_lines, listing, list_answer};

@@ -1,4 +1,6 @@
 // Little-endian u32s in lent bytes.
+#![tactic(auto)]
+
 ghost use Rattle.std.specs.Prelude.{◌≡◌, ◌+◌, ◌*◌, ◌≤◌, ◌<◌, length};
 ghost use Rattle.lists.specs.Lists.{over};
 ghost use Rattle.study_numbers.specs.Numbers.{number_bytes, number_at, numbers_in, bytes_of, packed};

@@ -1,4 +1,6 @@
 // The sites of a study file of any format: how many there are, the block of each, and the entries of a block.
+#![tactic(auto)]
+
 ghost use Rattle.std.specs.Prelude.{◌≡◌, [], ◌+◌, ◌≤◌, length};
 ghost use Rattle.answers.specs.Answers.{left_by};
 ghost use Rattle.answers.specs.declared.Answer.TheVariants.{Accepted};

@@ -1,4 +1,6 @@
 // Study files of any format written from their sites' entries.
+#![tactic(auto)]
+
 ghost use Rattle.std.specs.Prelude.{◌≡◌, not, ◌%◌, ◌≤◌, eqb, ltb, length};
 ghost use Rattle.lists.specs.Lists.{over};
 ghost use Rattle.study_numbers.specs.Numbers.{packed};

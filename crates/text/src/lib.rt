@@ -1,4 +1,6 @@
 // Text in a lent area: bytes and decimal numbers, put at a place. Each call tells the place past what it put.
+#![tactic(auto)]
+
 ghost use Rattle.std.specs.Prelude.{[], ◌∷◌, ◌+◌, ◌≤◌, ◌<◌, length};
 ghost use Rattle.text.specs.Text.{digit, decimal, number_then, Placed};
 

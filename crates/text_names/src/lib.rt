@@ -1,4 +1,6 @@
 // The words of a junction's text, in one table: the titles, then the kinds of the entries that stand under them.
+#![tactic(auto)]
+
 ghost use Rattle.std.specs.Prelude.{◌≡◌, true, ◌+◌, ◌*◌, ◌≤◌, ◌<◌, length};
 ghost use Rattle.text.specs.Text.{Placed};
 ghost use Rattle.layout.specs.Entries.{entry_count};
@@ -119,7 +121,7 @@ pub fn row_of(word: &[u8]) -> u32
 }
 
 // A class of titles: its first title, its first entry, how many entries each of its titles has, its first kind.
-#[derive(Drop)]
+#[derive(Clone, Copy)]
 pub struct Class {
     pub title: u32,
     pub entry: u32,

@@ -1,4 +1,6 @@
 // Numbers in a text: what a word of digits spells.
+#![tactic(auto)]
+
 ghost use Rattle.std.specs.Prelude.{◌≡◌, ◌≤◌};
 ghost use Rattle.text_numbers.specs.Numbers.{not_number, next_number, digits_of, number_of};
 

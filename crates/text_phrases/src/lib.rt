@@ -1,4 +1,6 @@
 // Phrases put at a place: words with a number past them, and the names of titles and entries.
+#![tactic(auto)]
+
 ghost use Rattle.std.specs.Prelude.{◌+◌, ◌≤◌, length, ◌++◌};
 ghost use Rattle.text.specs.Text.{digit_most, Placed};
 ghost use Rattle.text_names.specs.Names.{word_width};

@@ -1,11 +1,13 @@
 // Where a byte of a text stands, told in words.
+#![tactic(auto)]
+
 ghost use Rattle.std.specs.Prelude.{◌≡◌, ◌≤◌, length};
 ghost use Rattle.text.specs.Text.{Placed};
 ghost use Rattle.text_places.specs.Places.{more, line_at, column_at, within, place_text};
 ghost use Rattle.text_places.specs.Working.{place_most};
 
 // A line and a column of a text, from 1.
-#[derive(Drop)]
+#[derive(Clone, Copy)]
 struct Position {
     line: u32,
     column: u32,

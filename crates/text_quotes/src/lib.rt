@@ -1,4 +1,6 @@
 // A word of a text, quoted in what is said of it.
+#![tactic(auto)]
+
 ghost use Rattle.std.specs.Prelude.{◌≡◌, ◌+◌, ◌≤◌, min, length};
 ghost use Rattle.text.specs.Text.{Placed, first_in};
 ghost use Rattle.text_titles.specs.Blanks.{ends_word};

@@ -1,4 +1,6 @@
 // A text read for a sheet of a kind: the entries, or the first thing wrong and where it stands.
+#![tactic(auto)]
+
 ghost use Rattle.std.specs.Prelude.{◌≡◌, length};
 ghost use Rattle.lists.specs.Lists.{table};
 ghost use Rattle.text_scan.specs.Scanning.{usually, parsed};
@@ -13,7 +15,7 @@ use text_words::Found;
 // The most bytes that a text has.
 pub const TEXT_MOST: usize = 65_535;
 
-#[derive(Drop)]
+#[derive(Clone, Copy)]
 pub enum Reading {
     Read,
     Misread(Trouble, usize),

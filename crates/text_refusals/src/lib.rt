@@ -1,4 +1,6 @@
 // What is said, in words, where a text or a call is refused.
+#![tactic(auto)]
+
 ghost use Rattle.std.specs.Prelude.{◌+◌, ◌≤◌, ◌≡◌, length};
 ghost use Rattle.text.specs.Text.{Placed};
 ghost use Rattle.text_troubles.specs.Troubles.{trouble_text};

@@ -1,4 +1,6 @@
 // A junction's text scanned: its words are found, and taken one after the other.
+#![tactic(auto)]
+
 ghost use Rattle.std.specs.Prelude.{◌≡◌, ◌≤◌, ◌<◌, length, replicate};
 ghost use Rattle.layout.specs.Entries.{entry_count};
 ghost use Rattle.lists.specs.Lists.{table};
@@ -16,7 +18,7 @@ use text_words::{Found, Reader};
 const MARK_BYTES: usize = 3;
 
 // The reader, the place where a word begins that is not taken yet, and whether a comment goes on.
-#[derive(Drop)]
+#[derive(Clone, Copy)]
 struct Cursor {
     reader: Reader,
     begun: usize,

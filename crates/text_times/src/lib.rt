@@ -1,4 +1,6 @@
 // Times in a text, with their unit, and factors, without one: read, and put at a place.
+#![tactic(auto)]
+
 ghost use Rattle.std.specs.Prelude.{◌≡◌, ◌+◌, ◌≤◌, ◌<◌, ◌^◌, length};
 ghost use Rattle.text.specs.Text.{Placed};
 ghost use Rattle.text_times.specs.Times.{second, point_in, scaled, thousandths, together, decimal_of, from_end, time_of};

@@ -1,4 +1,6 @@
 // What may stand at the front of a junction's text before its entries: blanks and comments, and a title in quotes.
+#![tactic(auto)]
+
 ghost use Rattle.std.specs.Prelude.{◌≡◌, false, ◌+◌, ◌≤◌, length, get_or, take, drop};
 ghost use Rattle.text.specs.Text.{first_in};
 ghost use Rattle.text_titles.specs.Blanks.{is_blank, ends_word, is_lead, goes_on, lead_size};
@@ -10,7 +12,7 @@ pub const TITLE_MOST: usize = 60;
 // The bytes of the word `title`.
 const WORD_BYTES: usize = 5;
 
-#[derive(Drop)]
+#[derive(Clone, Copy)]
 pub enum Titling {
     Untitled,
     // The place of the title, its bytes, and the place past its quote.
@@ -20,7 +22,7 @@ pub enum Titling {
 }
 
 // A run of bytes that are passed over together.
-#[derive(Drop)]
+#[derive(Clone, Copy)]
 enum Run {
     Blanks,
     Title,

@@ -1,4 +1,6 @@
 // The values of entries in a text: a time with its unit, a factor with its decimals, or a whole number.
+#![tactic(auto)]
+
 ghost use Rattle.std.specs.Prelude.{◌≡◌, ◌+◌, ◌≤◌, length};
 ghost use Rattle.text.specs.Text.{Placed};
 ghost use Rattle.text_values.specs.Values.{form_of, value_from, value_of, value_text};
@@ -11,7 +13,7 @@ use text_numbers::TOO_LARGE;
 pub const VALUE_MOST: usize = text_times::TIME_MOST;
 
 // What can be wrong with a text.
-#[derive(Drop)]
+#[derive(Clone, Copy)]
 pub enum Trouble {
     Unknown,
     NoTitle,
@@ -27,14 +29,14 @@ pub enum Trouble {
 }
 
 // What a word is as a value: a number of 32 bits, or none, and why.
-#[derive(Drop)]
+#[derive(Clone, Copy)]
 pub enum Value {
     Is(u32),
     Not(Trouble),
 }
 
 // How the values of a kind are written: whole, as times in milliseconds, or as factors in thousandths.
-#[derive(Drop)]
+#[derive(Clone, Copy)]
 pub enum Form {
     Number,
     Time,

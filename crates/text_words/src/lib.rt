@@ -1,4 +1,6 @@
 // The words of a junction's text, taken one after the other: each names a title, or an entry, or is the value of one.
+#![tactic(auto)]
+
 ghost use Rattle.std.specs.Prelude.{◌≡◌, ◌-◌, ◌<◌, ◌^◌, length};
 ghost use Rattle.layout.specs.Entries.{entry_count};
 ghost use Rattle.text_names.specs.Names.{kind_count};
@@ -8,7 +10,7 @@ use kinds::Kind;
 use layout::ENTRIES;
 use text_values::{Trouble, Value};
 
-#[derive(Drop)]
+#[derive(Clone, Copy)]
 pub enum Found {
     Well,
     // The trouble, and the place of its word.
@@ -16,7 +18,7 @@ pub enum Found {
 }
 
 // The title that was named last, the entry whose value is due (ENTRIES if none is), and what was found so far.
-#[derive(Drop)]
+#[derive(Clone, Copy)]
 pub struct Reader {
     pub title: u32,
     pub wanted: usize,

@@ -1,4 +1,6 @@
 // A junction's entries as text: a line for each title, with the names and values of its entries.
+#![tactic(auto)]
+
 ghost use Rattle.std.specs.Prelude.{◌≡◌, ◌+◌, ◌<◌, ◌≤◌, length};
 ghost use Rattle.layout.specs.Entries.{entry_count};
 ghost use Rattle.lists.specs.Lists.{over};

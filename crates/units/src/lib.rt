@@ -1,19 +1,21 @@
 // The units of the procedure, and the quotient rounded up.
 //
 // A time, a volume and a flow are types of their own: no call that wants one of them takes another.
+#![tactic(auto)]
+
 ghost use Rattle.std.specs.Prelude.{◌≡◌, ◌+◌, ◌<◌, ◌≤◌, ◌^◌};
 ghost use Rattle.units.specs.Rounding.{up};
 
 // Milliseconds.
-#[derive(Drop)]
+#[derive(Clone, Copy)]
 pub struct Ms(pub u32);
 
 // Whole vehicles per hour, as they are counted and as a lane's ideal flow is given.
-#[derive(Drop)]
+#[derive(Clone, Copy)]
 pub struct Vph(pub u32);
 
 // What lanes carry, in parts of a vehicle per hour, of which FLOW_UNIT make a whole one.
-#[derive(Drop)]
+#[derive(Clone, Copy)]
 pub struct Flow(pub u32);
 
 // Tenths.

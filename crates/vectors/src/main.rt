@@ -1,4 +1,6 @@
 // Fills each junction of standard input, a block of a study file each, and prints the cells that were worked out.
+#![tactic(auto)]
+
 use answers::Answer;
 use layout::Worksheet;
 use libc::STDOUT_FILENO;
