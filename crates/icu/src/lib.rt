@@ -28,96 +28,84 @@ fn tell(answer: Answer) -> IcuAnswer
 }
 
 // Fills a sheet of 221 numbers from 93 entries.
-#[unsafe(no_mangle)]
-pub extern "C" fn icu_fill(entries: &[u32], sheet: &mut [u32]) -> IcuAnswer
+pub fn icu_fill(entries: &[u32], sheet: &mut [u32]) -> IcuAnswer
     ensures { FillAllows Junction entries.now sheet.old result sheet.new }
 {
     tell(sheet::fill(Worksheet::Junction, entries, sheet))
 }
 
 // Changes one entry of a sheet, and writes anew every cell that it reaches.
-#[unsafe(no_mangle)]
-pub extern "C" fn icu_amend(sheet: &mut [u32], entry: u32, value: u32) -> IcuAnswer
+pub fn icu_amend(sheet: &mut [u32], entry: u32, value: u32) -> IcuAnswer
     ensures { AmendAllows Junction sheet.old entry value result sheet.new }
 {
     tell(amend::amend(Worksheet::Junction, sheet, entry, value))
 }
 
 // Writes the 93 entries that a single point interchange begins with.
-#[unsafe(no_mangle)]
-pub extern "C" fn icu_point_start(entries: &mut [u32]) -> IcuAnswer
+pub fn icu_point_start(entries: &mut [u32]) -> IcuAnswer
     ensures { StartAllows entries.old result entries.new }
 {
     tell(point_start::start(entries))
 }
 
 // Fills a single point's sheet of 175 numbers from 93 entries.
-#[unsafe(no_mangle)]
-pub extern "C" fn icu_point_fill(entries: &[u32], sheet: &mut [u32]) -> IcuAnswer
+pub fn icu_point_fill(entries: &[u32], sheet: &mut [u32]) -> IcuAnswer
     ensures { FillAllows Point entries.now sheet.old result sheet.new }
 {
     tell(sheet::fill(Worksheet::Point, entries, sheet))
 }
 
 // Changes one entry of a single point's sheet, and writes anew every cell that it reaches.
-#[unsafe(no_mangle)]
-pub extern "C" fn icu_point_amend(sheet: &mut [u32], entry: u32, value: u32) -> IcuAnswer
+pub fn icu_point_amend(sheet: &mut [u32], entry: u32, value: u32) -> IcuAnswer
     ensures { AmendAllows Point sheet.old entry value result sheet.new }
 {
     tell(amend::amend(Worksheet::Point, sheet, entry, value))
 }
 
 // Judges the layout of a study file.
-#[unsafe(no_mangle)]
-pub extern "C" fn icu_study_check(file: &[u8]) -> IcuAnswer
+pub fn icu_study_check(file: &[u8]) -> IcuAnswer
     ensures { CheckAllows file.now result }
 {
     tell(study::check(file))
 }
 
 // The sites of a study file; 0 where it is refused.
-#[unsafe(no_mangle)]
-pub extern "C" fn icu_study_count(file: &[u8]) -> u32
+pub fn icu_study_count(file: &[u8]) -> u32
     ensures { CountAllows file.now result }
 {
     study::count(file)
 }
 
 // Copies a site's 93 entries out of a study file; of one of before they are widened, with no measured lane factors.
-#[unsafe(no_mangle)]
-pub extern "C" fn icu_study_site(file: &[u8], site: u32, entries: &mut [u32]) -> IcuAnswer
+pub fn icu_study_site(file: &[u8], site: u32, entries: &mut [u32]) -> IcuAnswer
     ensures { SiteAllows file.now site entries.old result entries.new }
 {
     tell(study::site_entries(file, site, entries))
 }
 
 // Writes a study file of today from the entries of its sites.
-#[unsafe(no_mangle)]
-pub extern "C" fn icu_study_write(entries: &[u32], out: &mut [u8]) -> IcuAnswer
+pub fn icu_study_write(entries: &[u32], out: &mut [u8]) -> IcuAnswer
     ensures { WriteAllows entries.now out.old result out.new }
 {
     tell(study::write(entries, out))
 }
 
 // Lists a study file as text, at the front of the lent bytes, and gives the text's length.
-#[unsafe(no_mangle)]
-pub extern "C" fn icu_study_list(file: &[u8], out: &mut [u8], written: &mut u32) -> IcuAnswer
+pub fn icu_study_list(file: &[u8], out: &mut [u8], written: &mut u32) -> IcuAnswer
     ensures { ListAllows file.now out.old written.old result out.new written.new }
 {
     tell(study_listing::list(file, out, written))
 }
 
 // Rates a diamond interchange: 29 cells of its worksheet, from a record of 191 numbers.
-#[unsafe(no_mangle)]
-pub extern "C" fn icu_diamond(record: &[u32], cells: &mut [u32]) -> IcuAnswer
+pub fn icu_diamond(record: &[u32], cells: &mut [u32]) -> IcuAnswer
     ensures { DiamondAllows «record».now cells.old result cells.new }
 {
     tell(diamond::rate(record, cells))
 }
 
 // Adds an office's site to an open study, at the lowest free place, and gives that place.
-#[unsafe(no_mangle)]
-pub extern "C" fn icu_open_add(
+pub fn icu_open_add(
     owners: &mut [u32],
     blocks: &mut [u32],
     office: u32,
@@ -131,8 +119,7 @@ pub extern "C" fn icu_open_add(
 }
 
 // Changes one entry of an office's site in its block.
-#[unsafe(no_mangle)]
-pub extern "C" fn icu_open_amend(
+pub fn icu_open_amend(
     owners: &[u32],
     blocks: &mut [u32],
     office: u32,
@@ -146,8 +133,7 @@ pub extern "C" fn icu_open_amend(
 }
 
 // Fills a sheet from an office's site.
-#[unsafe(no_mangle)]
-pub extern "C" fn icu_open_read(
+pub fn icu_open_read(
     owners: &[u32],
     blocks: &[u32],
     office: u32,
