@@ -37,7 +37,7 @@ module _ (k : Worksheet) (e : List ℕ) (a f v : ℕ) (long : length e ≡ entry
 
   street_lines :
       (o t : ℕ) → o < approach_count → (o ≡ a → ⊥) → t < line_count k
-      → (names row.own_val (suc t) ≡ false → get_or (lines_at k (set e (place a f) v) a o) t 0 ≡ get_or (lines_at k e a o) t 0)
+      → (names row.own (suc t) ≡ false → get_or (lines_at k (set e (place a f) v) a o) t 0 ≡ get_or (lines_at k e a o) t 0)
       × (faces row.facing (suc t) ≡ false → get_or (lines_at k (set e (place a f) v) o a) t 0 ≡ get_or (lines_at k e o a) t 0)
   unfolding lines_at
   street_lines o t ho other ht =
@@ -59,7 +59,7 @@ module _ (k : Worksheet) (e : List ℕ) (a f v : ℕ) (long : length e ≡ entry
     where
       go :
           (own : Bool) → eqb c a ≡ own → (opposed : Bool) → eqb c (opposite a) ≡ opposed
-          → cond own (names row.own_val (suc t)) (cond opposed (faces row.facing (suc t)) false) ≡ false
+          → cond own (names row.own (suc t)) (cond opposed (faces row.facing (suc t)) false) ≡ false
           → get_or (lines_at k (set e (place a f) v) c (opposite c)) t 0 ≡ get_or (lines_at k e c (opposite c)) t 0
       go true p opposed q off = rw (eqb-true c a p) ((street_lines (opposite a) t (street a ha).few (street a ha).other ht).0 off)
       go false p true q off =
@@ -83,7 +83,7 @@ module _ (k : Worksheet) (e : List ℕ) (a f v : ℕ) (long : length e ≡ entry
     where
       go :
           (own : Bool) → eqb c a ≡ own → (opposed : Bool) → eqb c (opposite a) ≡ opposed
-          → cond own (names row.own_val (suc t)) (cond opposed (faces row.facing (suc t)) false) ≡ false
+          → cond own (names row.own (suc t)) (cond opposed (faces row.facing (suc t)) false) ≡ false
       go true p opposed q = rw (free_number c out (omega (arith, eqb-true c a p)))
       go false p true q = rw (free_number c out (omega (arith, eqb-true c (opposite a) q, (street a ha).same_pair)))
       go false p false q = refl

@@ -1,5 +1,5 @@
 -- "What a call may say no to": the refusals' numbers, and the order in which the checks answer.
-use Rattle.std.specs.Prelude.{◌≡◌, refl, Bool, true, false, cond, ℕ, zero, suc}
+use Rattle.std.specs.Prelude.{Bool, cond, ℕ, zero, suc}
 use Rattle.answers.specs.declared.Refusal.{Refusal}
 use Rattle.answers.specs.declared.Refusal.TheVariants.{Size, Entry, Range, Shared, NoLane, File, Store, Travel, Owner, Full}
 use Rattle.answers.specs.declared.Place.{Place}

@@ -1,5 +1,5 @@
 -- The kinds of entries, their limits, and which kind stands at an entry's place.
-use Rattle.std.specs.Prelude.{◌≡◌, Bool, cond, ◌&&◌, ◌||◌, List, [], ◌∷◌, ℕ, zero, suc, ◌-◌, ◌%◌, ◌≤◌, min, max, eqb, leb, ltb, get_or}
+use Rattle.std.specs.Prelude.{◌≡◌, Bool, cond, ◌&&◌, ◌||◌, [], ◌∷◌, ℕ, zero, suc, ◌-◌, ◌%◌, ◌≤◌, min, max, eqb, leb, ltb, get_or}
 use Rattle.layout.specs.Entries.{movement_entries, approaches_from, approach_entries, cycle_entry, group_count}
 use Rattle.kinds.specs.declared.Limits.{Limits}
 use Rattle.kinds.specs.declared.Group.{Group}

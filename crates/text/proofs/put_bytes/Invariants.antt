@@ -1,0 +1,11 @@
+-- `text::put_bytes`. The loop has copied so many bytes; at its end, all.
+use Rattle.lists.proofs.Laws.{Copied}
+use lib.ListN.{length}
+use Prim.Native.Nat.{◌-◌}
+use Rattle.text.proofs.put_bytes.Given as goal
+
+abbrev pub invariant-loop-i : goal.invariant-loop-i
+invariant-loop-i l = Copied l.initial.out l.at l.bytes l.out l.i
+
+abbrev pub decreases-loop-i : goal.decreases-loop-i
+decreases-loop-i l = length l.bytes - l.i
