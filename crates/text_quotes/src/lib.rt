@@ -10,6 +10,9 @@ ghost use Rattle.text_quotes.specs.Working.{quoted_most};
 // The most bytes of a word that are shown.
 const SHOWN_MOST: usize = 24;
 
+// The first of ASCII's signs.
+const FIRST_SIGN: u8 = b'!';
+
 // The bytes of the word with which a text begins.
 fn word_size(text: &[u8]) -> usize
     ensures { (result ≡ first_in ends_word text.now) × (result ≤ length text.now) }
@@ -45,7 +48,7 @@ pub fn word_at(text: &[u8], place: usize) -> &[u8]
 fn shown_byte(byte: u8) -> u8
     ensures { result ≡ shown_byte byte }
 {
-    if byte < b'!' {
+    if byte < FIRST_SIGN {
         return b'?';
     }
     if b'~' < byte {

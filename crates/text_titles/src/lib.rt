@@ -12,6 +12,9 @@ pub const TITLE_MOST: usize = 60;
 // The bytes of the word `title`.
 const WORD_BYTES: usize = 5;
 
+// Each byte below it steers a terminal.
+const FIRST_PRINTED: u8 = b' ';
+
 #[derive(Clone, Copy)]
 pub enum Titling {
     Untitled,
@@ -140,7 +143,7 @@ fn begins(text: &[u8], bytes: &[u8]) -> bool
 pub fn is_steering(byte: u8) -> bool
     ensures { result ≡ steers byte }
 {
-    if byte < b' ' {
+    if byte < FIRST_PRINTED {
         return true;
     }
     byte == b'\x7F'
