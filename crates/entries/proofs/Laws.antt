@@ -1,19 +1,19 @@
 -- What acceptance gives: the laws that every caller of the judging leans on, over the index, the approach and the movement.
 use mathlib.Core.Path.{◌≡◌, refl, sym, ◌∙◌}
-use mathlib.Core.Bool.{Bool, true, false, not, cond, ◌&&◌, and_assoc, and-true, and-false}
+use mathlib.Core.Bool.{Bool, true, false, not, ◌&&◌, and_assoc, and-true, and-false}
 use mathlib.Core.List.{List}
 use Prim.Native.Nat.{ℕ, zero, suc, ◌+◌, ◌-◌, ◌*◌, ◌/◌, ◌%◌, ◌≤◌, ◌<◌}
 use native.Mathlib.Nat.{zero-add, add-zero, add-suc, suc-add}
 use native.Mathlib.Omega.{arith}
 use lib.ListN.{length, get_or}
-use lib.Dec.{leb, ltb, eqb, lit≤}
-use borrow.Author.Tests.{eqb-true, eqb-false, leb-true, ltb-false, lt-ltb, le-ltb, eq-eqb, not-true, not-false}
+use lib.Dec.{ltb, eqb, lit≤}
+use borrow.Author.Tests.{eqb-true, eqb-false, ltb-false, lt-ltb, le-ltb, eq-eqb, not-true, not-false}
 use Rattle.answers.specs.Answers.{◌then◌, refuse_if, in_turn, lowest}
 use Rattle.answers.specs.declared.Refusal.TheVariants.{Size}
 use Rattle.answers.specs.declared.Answer.TheVariants.{Accepted}
 use Rattle.answers.proofs.Laws.{both_accepted, not_refused, each_accepted, all_accepted as all_checked}
 use Rattle.kinds.specs.declared.Kind.{Kind}
-use Rattle.kinds.specs.Kinds.{Within, limits_of, in_range, kind_at, movement_kind, approach_kind, group_of}
+use Rattle.kinds.specs.Kinds.{in_range, kind_at, movement_kind, approach_kind, group_of}
 use Rattle.lists.proofs.Tests.{both_true, not_both, neither}
 use Rattle.layout.specs.declared.Worksheet.{Worksheet}
 use Rattle.layout.specs.declared.Worksheet.TheVariants.{Junction, Point}

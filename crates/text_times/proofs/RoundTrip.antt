@@ -11,7 +11,7 @@ use borrow.Author.Tests.{eqb-true, ne_eqb, lt-ltb, le-leb}
 use native.Mathlib.Omega.{arith}
 use Rattle.text.specs.Text.{digit, decimal, first_in}
 use Rattle.text.proofs.Laws.{decimal_digits, first_after}
-use Rattle.text_numbers.specs.Numbers.{too_large, next_number, number_in, digits_of, number_of}
+use Rattle.text_numbers.specs.Numbers.{too_large, next_number, number_in, number_of}
 use Rattle.text_numbers.proofs.Laws.{next_digit, decimal_some, number_read}
 use Rattle.text_times.specs.Times.{second, point, letter_s, letter_m, is_point, point_in, scaled, thousandths, decimal_of, from_end, without, time_of}
 use Rattle.text_times.specs.Times.{decimals, fraction_text, decimal_text, time_text}

@@ -4,7 +4,6 @@ use Rattle.entries.specs.Working.{all_in_range}
 use Rattle.layout.specs.Entries.{approach_count, movement_count, cycle_entry}
 use Rattle.kinds.specs.Kinds.{kind_at}
 use native.Mathlib.Omega.{arith}
-use Prim.Native.Nat.{◌-◌}
 use mathlib.Core.Path.{◌≡◌, refl}
 use Rattle.std.proofs.lemmas.Bool.{not_from_false, not_from_true}
 use Rattle.entries.proofs.all_in_range.Goals as goal

@@ -2,7 +2,6 @@
 use Rattle.entries.proofs.Laws.{count_most}
 use Rattle.answers.proofs.Laws.{accepts, refuses, search_starts, search_goes_on, search_stops, search_ends}
 use native.Mathlib.Omega.{arith}
-use Prim.Native.Nat.{◌-◌}
 use mathlib.Core.Path.{refl, sym, ◌∙◌}
 use Rattle.entries.proofs.check_each.Goals as goal
 

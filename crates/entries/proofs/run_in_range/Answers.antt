@@ -2,7 +2,7 @@
 use Rattle.entries.proofs.Laws.{range_goes_on, range_stops, one_in_range}
 use Rattle.entries.specs.Working.{all_in_range}
 use native.Mathlib.Omega.{arith}
-use Prim.Native.Nat.{◌+◌, ◌-◌}
+use Prim.Native.Nat.{◌+◌}
 use mathlib.Core.Path.{◌≡◌, refl, sym}
 use Rattle.std.proofs.lemmas.Bool.{not_from_false, not_from_true}
 use Rattle.entries.proofs.run_in_range.Goals as goal

@@ -20,7 +20,7 @@ loop-i-preserved c =
     let byte = c.word_byte-byte in (
       omega arith,
       (elim c.if-byte-ne32.branch [
-        then-byte-ne32 w ↦ rw w.out-is (omega (arith, w.put_byte-end.auto.0, c.loop-i.invariant.1))
+        then-byte-ne32 w ↦ rw w.out-is (omega (arith, w.put_byte-end.auto.out, c.loop-i.invariant.1))
       | else-byte-ne32 w ↦ rw w.out-is c.loop-i.invariant.1 ]),
       (elim c.if-byte-ne32.branch [
         then-byte-ne32 w ↦ rw (w.out-is, w.end-is) (word_more row c.loop-i.i _ byte.ensures c.loop-i.invariant.2 w.if-byte-ne32.true (omega arith) w.put_byte-end.ensures)

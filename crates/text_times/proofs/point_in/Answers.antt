@@ -3,7 +3,6 @@ use Rattle.text.proofs.Laws.{first_here, first_past, first_none}
 use Rattle.text_times.specs.Times.{point, is_point}
 use borrow.Author.Tests.{eq-eqb, ne_eqb}
 use native.Mathlib.Omega.{arith}
-use Prim.Native.Nat.{◌-◌}
 use Rattle.text_times.proofs.point_in.Goals as goal
 
 pub loop-at-init : goal.loop-at-init
