@@ -1,5 +1,5 @@
 -- Where the terms end: the least r whose term is not 0. One test, computed over the whole table, shows it of every r and every term.
-use mathlib.Core.Path.{◌≡◌, refl, ◌∙◌, sym}
+use mathlib.Core.Path.{◌≡◌, ◌∙◌, sym}
 use mathlib.Core.Bool.{Bool, true, ◌&&◌}
 use mathlib.Core.List.{List, [], ◌∷◌}
 use Prim.Native.Nat.{ℕ, ◌+◌, ◌-◌, ◌*◌, ◌<◌, ◌≤◌}
@@ -17,17 +17,13 @@ abbrev pub first : List ℕ
 first = 1 ∷ 14 ∷ 298 ∷ 1261 ∷ 2992 ∷ 5383 ∷ []
 
 -- term 2j + 1 is 0 just below the table's number, and not 0 at it
-test : ℕ → Bool
+unfoldable pub test : ℕ → Bool
 test j = eqb (term (get_or first j 0 - 1) (2 * j + 1)) 0 && ltb 0 (term (get_or first j 0) (2 * j + 1))
 
-whole : holds_below test 6 ≡ true
-unfolding test term
-whole = refl
-
--- so it is 0 for every r below that number, and for no other
-pub rule : (r j : ℕ) → j < 6 → ltb r (get_or first j 0) ≡ eqb (term r (2 * j + 1)) 0
+-- so it is 0 for every r below that number, and for no other, where the test holds of the whole table
+pub rule : holds_below test 6 ≡ true → (r j : ℕ) → j < 6 → ltb r (get_or first j 0) ≡ eqb (term r (2 * j + 1)) 0
 unfolding test
-rule r j h =
+rule whole r j h =
     let f = get_or first j 0 in
     let two = both_true (eqb (term (f - 1) (2 * j + 1)) 0) (ltb 0 (term f (2 * j + 1))) (at_each test 6 whole j h) in
     go f (2 * j + 1) (eqb-true _ _ two.0) (ltb-true _ _ two.1) (dec_lt r f)
