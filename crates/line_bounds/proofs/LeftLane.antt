@@ -1,6 +1,6 @@
 -- Lines 19–22: how large they can be, over plain numbers and then of an acceptable approach.
 use mathlib.Core.Path.{◌≡◌, refl}
-use mathlib.Core.Bool.{Bool, true, false, cond, ◌&&◌}
+use mathlib.Core.Bool.{Bool, true, false}
 use Prim.Native.Nat.{ℕ, ◌+◌, ◌-◌, ◌*◌, ◌/◌, ◌≤◌, ◌<◌}
 use native.Mathlib.Nat.{mul-le-mul, mul-le-mul_left, le-mul_of_pos_right, mul-pos}
 use native.Mathlib.Nat.{zero-mul, mul-div-mul_left, mul-div-mul_right, le-div_iff_mul-le, div-le_of_le-mul}
@@ -22,7 +22,7 @@ use Rattle.procedure.specs.Lines.{b, v_c, flow, heaviest, v_ll, q, single, left_
 use Rattle.line_bounds.specs.Bounds.{most_volume, least_lane_flow, most_flow, most_num}
 use Rattle.line_bounds.specs.Bounds.{most_equivalent, least_parts, most_parts, least_mixed, most_mixed, most_mixed_served}
 use Rattle.line_bounds.proofs.Numbers.{up_least, shared_out, chosen_most}
-use Rattle.line_bounds.proofs.Flows.{Volumes, volumes, parted, group_serving}
+use Rattle.line_bounds.proofs.Flows.{volumes, parted, group_serving}
 
 -- line 19 lies between the folded lefts and all of T
 pub heaviest_most : (b v_c n : ℕ) → b ≤ v_c → 0 < n → heaviest b v_c n ≤ v_c

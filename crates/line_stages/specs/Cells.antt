@@ -2,14 +2,7 @@
 use Rattle.std.specs.Prelude.{List, [], ◌∷◌, ◌++◌, ℕ, take}
 use Rattle.layout.specs.declared.Worksheet.{Worksheet}
 use Rattle.layout.specs.Sheet.{line_count}
-use Rattle.line_stages.specs.declared.Volumes.{Volumes}
-use Rattle.line_stages.specs.declared.Flows.{Flows}
-use Rattle.line_stages.specs.declared.Walking.{Walking}
-use Rattle.line_stages.specs.declared.Times.{Times}
 use Rattle.line_stages.specs.declared.First.{First}
-use Rattle.line_stages.specs.declared.LeftLane.{LeftLane}
-use Rattle.line_stages.specs.declared.Permitted.{Permitted}
-use Rattle.line_stages.specs.declared.Split.{Split}
 use Rattle.line_stages.specs.declared.Later.{Later}
 use Rattle.line_stages.specs.declared.Lines.{Lines}
 

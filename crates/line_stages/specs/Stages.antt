@@ -1,5 +1,5 @@
 -- Working definitions: what each stage of the lines hands on, the lines of `procedure` put into the stages' structs, each in its unit.
-use Rattle.std.specs.Prelude.{Bool, ℕ}
+use Rattle.std.specs.Prelude.{ℕ}
 use Rattle.units.specs.declared.Ms.{Ms}
 use Rattle.units.specs.declared.Vph.{Vph}
 use Rattle.units.specs.declared.Flow.{Flow}

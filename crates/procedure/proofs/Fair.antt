@@ -3,7 +3,7 @@ use mathlib.Core.Path.{◌≡◌, refl, sym, subst}
 use mathlib.Core.Bool.{Bool, true, false, cond}
 use mathlib.Core.Logic.{⊎_elim, ◌⊎◌, inl, inr}
 use mathlib.Core.List.{List}
-use Prim.Native.Nat.{ℕ, ◌+◌, ◌*◌, ◌/◌, ◌%◌, ◌≤◌, ◌<◌}
+use Prim.Native.Nat.{ℕ, ◌+◌, ◌/◌, ◌%◌, ◌<◌}
 use native.Mathlib.Omega.{arith}
 use native.Mathlib.Decide.{dec_lt}
 use lib.Dec.{eqb, lit<}
@@ -20,7 +20,7 @@ use Rattle.entries.specs.Judging.{judged, other_lanes}
 use Rattle.entries.proofs.Laws.{accepted_range, accepted_movement, accepted_approach, accepted_shared, accepted_served}
 use Rattle.kinds.specs.declared.Kind.TheVariants.{Lanes, Volume, IdealFlow, LostTime, MinimumGreen, LaneFactor}
 use Rattle.procedure.specs.declared.Movement.{Movement}
-use Rattle.procedure.specs.Approach.{read_movement, read_approach, movement_of, n, v, is_shared}
+use Rattle.procedure.specs.Approach.{read_movement, read_approach, movement_of, n, is_shared}
 use Rattle.procedure.specs.Lines.{a, b, volume}
 use Rattle.procedure.specs.Ranges.{FairGroup, Fair, FairCycle}
 

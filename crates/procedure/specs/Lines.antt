@@ -1,7 +1,7 @@
 -- "The lines" of an approach s: for each its formula, in the paper's letters, and the line itself.
 -- o is the oncoming approach, CL the cycle in seconds. Volumes are vehicles per hour; flows tenths of a vehicle per hour (`flow_unit`),
 -- rounded down; factors and shares ten-thousandths; times ms, rounded up.
-use Rattle.std.specs.Prelude.{Bool, cond, not, ◌&&◌, ◌||◌, List, [], ◌∷◌, ◌++◌, ℕ, ◌+◌, ◌-◌, ◌*◌, ◌/◌, max, min, eqb, leb, ltb}
+use Rattle.std.specs.Prelude.{Bool, cond, ◌&&◌, ◌||◌, List, [], ◌∷◌, ◌++◌, ℕ, ◌+◌, ◌-◌, ◌*◌, ◌/◌, max, min, eqb, leb, ltb}
 use Rattle.units.specs.Rounding.{up}
 use Rattle.units.specs.Unit.{flow_unit, whole}
 use Rattle.layout.specs.declared.Worksheet.{Worksheet}

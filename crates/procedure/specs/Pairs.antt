@@ -1,5 +1,5 @@
 -- "Pairs" and the "last eight cells", from the lines of the approaches.
-use Rattle.std.specs.Prelude.{Bool, cond, ◌&&◌, ◌||◌, List, [], ◌∷◌, ℕ, zero, suc, ◌+◌, ◌-◌, max, eqb, leb, get_or}
+use Rattle.std.specs.Prelude.{Bool, cond, ◌&&◌, ◌||◌, List, [], ◌∷◌, ℕ, suc, ◌+◌, ◌-◌, max, eqb, leb, get_or}
 use Rattle.units.specs.Rounding.{up}
 use Rattle.layout.specs.declared.Worksheet.{Worksheet}
 use Rattle.layout.specs.declared.Worksheet.TheVariants.{Junction, Point}

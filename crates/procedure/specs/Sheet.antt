@@ -1,6 +1,6 @@
 -- The sheet is the entries, "28 lines of each approach, 4 cells of each pair, the last 8"; of a single point, Request Seven, "the entries,
 -- lines 1–18 of each approach, two protected totals and the last eight". k is the sheet's kind.
-use Rattle.std.specs.Prelude.{Bool, ◌||◌, List, [], ◌∷◌, ◌++◌, ℕ, ◌+◌, max}
+use Rattle.std.specs.Prelude.{◌||◌, List, [], ◌∷◌, ◌++◌, ℕ, ◌+◌, max}
 use Rattle.layout.specs.declared.Worksheet.{Worksheet}
 use Rattle.layout.specs.declared.Worksheet.TheVariants.{Junction}
 use Rattle.layout.specs.Entries.{EB, WB, NB, SB}

@@ -1,7 +1,7 @@
 -- A junction as text. Blanks part the words, `#` begins a comment that ends with its line, and an entry that is not written
 -- has its kind's usual value. A byte-order mark at the front is passed over: places in the text are counted past it. So is the
 -- text's title, whose bytes are counted.
-use Rattle.std.specs.Prelude.{ℕ, zero, suc, ◌+◌, ◌-◌, Bool, true, false, cond, ◌&&◌, List, length, get_or, take, drop, replicate, eqb, ltb}
+use Rattle.std.specs.Prelude.{ℕ, zero, suc, ◌+◌, ◌-◌, Bool, false, cond, ◌&&◌, List, length, get_or, take, drop, replicate, eqb, ltb}
 use Rattle.layout.specs.Entries.{entry_count}
 use Rattle.lists.specs.Lists.{table}
 use Rattle.kinds.specs.Kinds.{limits_of, kind_at}

@@ -1,6 +1,5 @@
 -- What is a title, and what is not.
 use mathlib.Core.Path.{◌≡◌, refl}
-use mathlib.Core.List.{[]}
 use Rattle.text.specs.Text.{ascii, first_in}
 use Rattle.text_titles.specs.Blanks.{lead_size}
 use Rattle.text_titles.specs.Titles.{begins_with, is_quoted, titling_of, title_of}

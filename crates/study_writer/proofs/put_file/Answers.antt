@@ -1,0 +1,16 @@
+-- `study_writer::put_file`. The four steps that write the file.
+use Rattle.study_writer.proofs.Laws.{whole_sites, written}
+use native.Mathlib.Omega.{arith}
+use Rattle.study_writer.proofs.put_file.Goals as goal
+
+pub write_all-requires : goal.write_all-requires
+write_all-requires c =
+    let entries = c.args.entries.now in
+    omega (arith, c.block_place.ensures, c.requires.1.fits, whole_sites c.args.format entries c.requires.1.whole)
+
+pub returns : goal.returns
+returns c =
+    let can = c.requires.1 in
+    let blocks = rw c.block_place.ensures at c.write_all.ensures in
+    written c.args.format c.args.entries.now c.args.out.now c.requires.0 can.whole can.fits
+    c.put_bytes.ensures.is c.write.ensures c.put_offsets.ensures blocks
