@@ -1,23 +1,23 @@
 -- What the acceptance of a record gives: two acceptable junctions with one cycle, and its own numbers in range.
-use mathlib.Core.Path.{◌≡◌, refl, sym, ◌∙◌}
-use mathlib.Core.Bool.{Bool, true, false, not, cond}
+use mathlib.Core.Path.{◌≡◌, refl, ◌∙◌}
+use mathlib.Core.Bool.{Bool, true, false, not}
 use mathlib.Core.List.{List}
 use Prim.Native.Nat.{ℕ, zero, suc, ◌+◌, ◌≤◌, ◌<◌}
-use native.Mathlib.Nat.{zero-add, add-suc, suc-add}
+use native.Mathlib.Nat.{zero-add}
 use native.Mathlib.Omega.{arith}
-use lib.ListN.{length, take, drop, length-drop}
+use lib.ListN.{length, drop, length-drop}
 use lib.Seq.{length-take-le}
-use lib.Dec.{eqb, lit≤}
+use lib.Dec.{eqb}
 use borrow.Author.Tests.{eqb-true, eq-eqb, not-false}
 use Rattle.answers.specs.declared.Refusal.{Refusal}
 use Rattle.answers.specs.declared.Refusal.TheVariants.{Range as OutOfRange, Store, Travel}
 use Rattle.answers.specs.declared.Answer.{Answer}
 use Rattle.answers.specs.declared.Answer.TheVariants.{Accepted, Refused}
 use Rattle.answers.specs.Answers.{◌then◌, refuse_if, in_turn, lowest, place_of}
-use Rattle.answers.proofs.Laws.{go_on, both_accepted, not_refused, accepts, sized, each_accepted}
+use Rattle.answers.proofs.Laws.{both_accepted, not_refused, sized, each_accepted}
 use Rattle.layout.specs.declared.Worksheet.TheVariants.{Junction}
 use Rattle.layout.specs.Entries.{entry_count}
-use Rattle.layout.specs.Diamond.{east_from, east_cycle, storages_from, storage_count, travel_place, record_count, diamond_count}
+use Rattle.layout.specs.Diamond.{east_from, east_cycle, storages_from, storage_count, travel_place, record_count}
 use Rattle.kinds.specs.declared.Kind.TheVariants.{Storage, TravelTime}
 use Rattle.kinds.specs.Kinds.{in_range}
 use Rattle.entries.specs.declared.Fault.{Fault}
@@ -26,7 +26,7 @@ use Rattle.entries.specs.Layout.{cycle}
 use Rattle.entries.specs.Judging.{size_answer, refusal_of, count_of, faulty, each_answer, judged_for, judged}
 use Rattle.entries.proofs.Laws.{count_most, checked}
 use Rattle.diamond_rules.specs.Record.{west, east, storage, travel, counted_on, both_answer, cycles_answer, stores_answer, travel_answer}
-use Rattle.diamond_rules.specs.Record.{junctions_answer, own_answer, record_size, judged_record, cells_size, diamond_answer}
+use Rattle.diamond_rules.specs.Record.{junctions_answer, own_answer, record_size, judged_record}
 
 -- of a whole record, each junction has its entries
 pub west-length : (r : List ℕ) → length r ≡ record_count → length (west r) ≡ entry_count

@@ -1,5 +1,5 @@
 -- The ratio test says what the book's 90th percentile says, x + 1.28·√x < L with x = N/3600, in whole numbers and without roots.
-use mathlib.Core.Path.{◌≡◌, refl}
+use mathlib.Core.Path.{◌≡◌}
 use mathlib.Core.Bool.{true}
 use Prim.Native.Nat.{ℕ, ◌+◌, ◌-◌, ◌*◌, ◌≤◌, ◌<◌}
 use native.Mathlib.Nat.{mul-le-mul}

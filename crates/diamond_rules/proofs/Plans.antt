@@ -1,11 +1,8 @@
 -- Laws of the timing plans: no subtraction of Table 6-4 goes below 0, and what the pick is worth.
-use mathlib.Core.Path.{◌≡◌, refl}
-use mathlib.Core.Bool.{Bool, true, false, cond, ◌&&◌}
-use mathlib.Core.List.{List}
-use Prim.Native.Nat.{ℕ, ◌+◌, ◌-◌, ◌*◌, ◌≤◌, ◌<◌, max, min}
+use Prim.Native.Nat.{ℕ, ◌*◌, ◌≤◌}
 use native.Mathlib.Omega.{arith}
 use Rattle.diamond_rules.specs.declared.Side.{Side}
-use Rattle.diamond_rules.specs.Lines.{entering, overlap, off_ramp, held, leading_alternate}
+use Rattle.diamond_rules.specs.Lines.{entering, overlap, held}
 
 -- an overlap is no longer than the travel time, nor than what enters
 pub overlap_most : (t_t : ℕ) (s : Side) → (overlap t_t s ≤ t_t) × (overlap t_t s ≤ entering s)

@@ -1,7 +1,6 @@
 -- The book's example 3: "Main Street and Interstate 99", with a storage of 19.4 and one of 26.7 vehicles cut to whole ones.
 use Rattle.std.specs.Prelude.{List, [], ◌∷◌, ◌++◌, ℕ}
 use Rattle.layout.specs.Sheet.{BLANK}
-use Rattle.diamond_rules.specs.Lines.{diamond}
 
 -- lanes and volume; "The Ideal Saturation Flow is 2,000", "Minimum Green .. 4.0 seconds", "Lost Time .. 4.0 seconds"; the table's lane factors
 abbrev pub movement : ℕ → ℕ → List ℕ

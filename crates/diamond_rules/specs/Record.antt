@@ -1,5 +1,5 @@
 -- Request Two's record: "the west junction's entries, the east's (same cycle ..), storages .., travel time", and what is refused.
-use Rattle.std.specs.Prelude.{Bool, not, List, ℕ, ◌+◌, eqb, length, get_or, take, drop}
+use Rattle.std.specs.Prelude.{not, List, ℕ, ◌+◌, eqb, length, get_or, take, drop}
 use Rattle.answers.specs.declared.Answer.{Answer}
 use Rattle.answers.specs.declared.Answer.TheVariants.{Accepted, Refused}
 use Rattle.answers.specs.declared.Refusal.TheVariants.{Size, Range as OutOfRange, Store, Travel}

@@ -1,6 +1,5 @@
 -- The numbers of the ratio test fit, and what the acceptance of a record gives of them.
 use mathlib.Core.Path.{◌≡◌}
-use mathlib.Core.Bool.{true}
 use mathlib.Core.List.{List}
 use Prim.Native.Nat.{ℕ, zero, suc, ◌*◌, ◌≤◌, ◌<◌}
 use native.Mathlib.Nat.{mul-le-mul}
@@ -8,7 +7,6 @@ use native.Mathlib.Omega.{arith}
 use lib.Dec.{lit<}
 use Rattle.answers.specs.declared.Answer.TheVariants.{Accepted}
 use Rattle.layout.specs.Entries.{approach_count, EB, WB, NB, SB, left, volume_no}
-use Rattle.layout.specs.Diamond.{storage_count}
 use Rattle.kinds.specs.declared.Kind.TheVariants.{Volume, Cycle, Storage}
 use Rattle.kinds.specs.Kinds.{Within}
 use Rattle.kinds.specs.Working.{most_of}

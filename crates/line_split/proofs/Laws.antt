@@ -11,7 +11,6 @@ use Rattle.procedure.specs.declared.Approach.{Approach}
 use Rattle.procedure.specs.Approach.{v, is_shared}
 use Rattle.procedure.specs.Lines.{b, volume, v_st, s_st, s_sl, interference, part, time, reference, line27, line28}
 use Rattle.units.specs.declared.Ms.{Ms}
-use Rattle.line_stages.specs.declared.Split.{Split}
 use Rattle.line_stages.specs.Stages.{split_of}
 use Rattle.line_bounds.proofs.Flows.{straight_alike}
 

@@ -1,11 +1,10 @@
 -- What acceptance by each check of an open study says, and what the lowest free place is.
-use mathlib.Core.Path.{◌≡◌, refl, sym, ap, ◌∙◌}
+use mathlib.Core.Path.{◌≡◌, refl, sym, ◌∙◌}
 use mathlib.Core.Logic.{◌≢◌}
 use mathlib.Core.Bool.{Bool, true, false, not, cond}
 use mathlib.Core.List.{List, [], ◌∷◌}
 use Prim.Native.Nat.{ℕ, zero, suc, ◌+◌, ◌≤◌, ◌<◌}
 use native.Mathlib.Numerals.{add-one}
-use native.Mathlib.Nat.{add-zero, add-suc}
 use native.Mathlib.Decide.{dec_lt}
 use native.Mathlib.Omega.{arith}
 use lib.Dec.{eqb, leb}
@@ -17,9 +16,8 @@ use Rattle.layout.specs.Entries.{entry_count}
 use Rattle.layout.specs.declared.Worksheet.TheVariants.{Junction}
 use Rattle.layout.specs.Sheet.{sheet_count}
 use Rattle.layout.specs.Open.{place_count, blocks_count}
-use Rattle.answers.specs.Answers.{◌then◌, refuse_if}
+use Rattle.answers.specs.Answers.{refuse_if}
 use Rattle.answers.specs.declared.Refusal.TheVariants.{Size, Owner, Full}
-use Rattle.answers.specs.declared.Answer.{Answer}
 use Rattle.answers.specs.declared.Answer.TheVariants.{Accepted, Refused}
 use Rattle.answers.proofs.Laws.{both_accepted, not_refused, sized}
 use Rattle.entries.specs.Judging.{size_answer, judged}

@@ -6,7 +6,6 @@ use native.Mathlib.Omega.{arith}
 use Rattle.text.specs.Text.{ascii, joined}
 use Rattle.layout.proofs.Laws.{few}
 use Rattle.layout.specs.Entries.{approach_count}
-use Rattle.layout.specs.Sheet.{line_count, pair_cells, beside_numbers}
 use Rattle.layout.specs.declared.Worksheet.{Worksheet}
 use Rattle.layout.specs.declared.Worksheet.TheVariants.{Junction, Point}
 use Rattle.page_form.specs.declared.Counted.TheVariants.{Rows, Cells}

@@ -1,12 +1,11 @@
 -- What is written is read back, and a good file that is read and written is the same bytes, in any format.
 use Prim.Native.Nat.{ℕ, zero, suc, ◌+◌, ◌*◌, ◌/◌, ◌%◌, ◌<◌, ◌≤◌}
 use mathlib.Core.Path.{◌≡◌, refl, sym, ap, ◌∙◌}
-use mathlib.Core.Bool.{true, not}
+use mathlib.Core.Bool.{true}
 use mathlib.Core.List.{List, [], ◌∷◌, ◌++◌}
 use lib.ListN.{length, get_or, take, drop, length-append, length-drop, take-append-drop, get_or-append}
 use lib.Seq.{get_or-append-add, get_or-take, get_or-drop, length-take-le, take_all, ext_get_or}
-use lib.Dec.{ltb, eqb}
-use borrow.Author.Tests.{ltb-false, le-ltb, lt-leb, eqb-true, eq-eqb, not-false}
+use borrow.Author.Tests.{le-ltb, lt-leb, eq-eqb}
 use native.Mathlib.Nat.{mul-le-mul_left, mul-div_cancel_left, mul-mod_right}
 use native.Mathlib.Omega.{arith}
 use Rattle.lists.specs.Lists.{AllBelow, table, over}
@@ -14,12 +13,9 @@ use Rattle.lists.proofs.Laws.{length-table, table_at, table_join, table_same, fr
 use Rattle.study_numbers.specs.Numbers.{number_bytes, number_limit, byte_limit, number_at, numbers_in, packed}
 use Rattle.study_numbers.proofs.Laws.{length-packed}
 use Rattle.study_numbers.proofs.RoundTrip.{number_past, number_take, number_drop, number_packed, packed_numbers}
-use Rattle.answers.specs.Answers.{◌then◌, refuse_if}
-use Rattle.answers.specs.declared.Refusal.TheVariants.{Size, File}
 use Rattle.answers.specs.declared.Answer.TheVariants.{Accepted}
-use Rattle.answers.proofs.Laws.{both_accepted, not_refused}
 use Rattle.study_format.specs.declared.Format.{Format}
-use Rattle.study_format.specs.Format.{count_place, room_place, sites_of, offset_place, starts_with, block_bytes, block_place, file_bytes}
+use Rattle.study_format.specs.Format.{count_place, sites_of, offset_place, starts_with, block_bytes, block_place, file_bytes}
 use Rattle.study_format.specs.Format.{judgement, count_of, site_answer, site_block, site_entries, sites_in, write_answer, offsets, file_of}
 use Rattle.study_format.specs.Working.{Modest, entries_up_to}
 use Rattle.study_format.proofs.Laws.{WellLaidOut, take_of_starts_with, accepted, laid_out, places_fit}

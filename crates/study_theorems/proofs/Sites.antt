@@ -1,8 +1,8 @@
 -- The entries of a file's sites, site after site, whichever format it is of: how many, which stand where, and that each fits 32 bits.
 use Prim.Native.Nat.{ℕ, zero, suc, ◌+◌, ◌-◌, ◌*◌, ◌%◌, ◌≤◌, ◌<◌}
-use mathlib.Core.Path.{◌≡◌, refl, sym, ap, ◌∙◌}
+use mathlib.Core.Path.{◌≡◌, ap, ◌∙◌}
 use mathlib.Core.Bool.{Bool, true, false, cond, ◌&&◌}
-use mathlib.Core.List.{List, [], ◌∷◌, ◌++◌}
+use mathlib.Core.List.{List, [], ◌++◌}
 use lib.ListN.{length, get_or, take, drop, length-append, length-take, length-drop, get_or-append, get_or-eq_default}
 use lib.Dec.{eqb, ltb}
 use lib.Seq.{get_or-append-add, get_or-take, get_or-drop, take_all, take-append-le, drop-append-le, drop_at}

@@ -3,7 +3,6 @@ use Rattle.text_names.proofs.Laws.{agrees_on, agrees_not}
 use borrow.Author.Tests.{le-leb, lt-leb}
 use native.Mathlib.Omega.{arith}
 use Rattle.text_names.specs.Names.{word_width, agrees, is_word}
-use Prim.Native.Nat.{◌-◌}
 use mathlib.Core.Path.{◌≡◌, refl, ◌∙◌}
 use Rattle.text_names.proofs.is_word.Goals.{else-padded-word_byte, then-padded-word_byte}
 use Rattle.text_names.proofs.is_word.Goals as goal
@@ -23,8 +22,9 @@ loop-i-preserved c =
     let two = c.word_byte.ensures in (
       omega arith,
       (elim c.if-padded-word_byte.branch [
-        then-padded-word_byte w ↦ w.is_same-is ∙ agrees_not args.word.now args.row c.loop-i.i _ _ one two w.if-padded-word_byte.true
-      | else-padded-word_byte w ↦ w.is_same-is ∙ agrees_on args.word.now args.row c.loop-i.i _ _ one two c.loop-i.invariant.1 w.if-padded-word_byte.false ]),
+        | then-padded-word_byte w ↦ w.is_same-is ∙ agrees_not args.word.now args.row c.loop-i.i _ _ one two w.if-padded-word_byte.true
+        | else-padded-word_byte w ↦ w.is_same-is ∙ agrees_on args.word.now args.row c.loop-i.i _ _ one two c.loop-i.invariant.1 w.if-padded-word_byte.false
+      ]),
     )
 
 pub returns : goal.returns

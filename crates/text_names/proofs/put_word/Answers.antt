@@ -2,7 +2,6 @@
 use Rattle.text_names.proofs.Laws.{length-word_in, word_none, word_blank, word_more}
 use native.Mathlib.Omega.{arith}
 use Rattle.text_names.specs.Names.{word_width}
-use Prim.Native.Nat.{◌-◌}
 use mathlib.Core.Path.{◌≡◌, refl}
 use Rattle.text_names.proofs.put_word.Goals.{else-byte-ne32, then-byte-ne32}
 use Rattle.text_names.proofs.put_word.Goals as goal
@@ -20,11 +19,13 @@ loop-i-preserved c =
     let byte = c.word_byte-byte in (
       omega arith,
       (elim c.if-byte-ne32.branch [
-        then-byte-ne32 w ↦ rw w.out-is (omega (arith, w.put_byte-end.auto.out, c.loop-i.invariant.1))
-      | else-byte-ne32 w ↦ rw w.out-is c.loop-i.invariant.1 ]),
+        | then-byte-ne32 w ↦ rw w.out-is (omega (arith, w.put_byte-end.auto.out, c.loop-i.invariant.1))
+        | else-byte-ne32 w ↦ rw w.out-is c.loop-i.invariant.1
+      ]),
       (elim c.if-byte-ne32.branch [
-        then-byte-ne32 w ↦ rw (w.out-is, w.end-is) (word_more row c.loop-i.i _ byte.ensures c.loop-i.invariant.2 w.if-byte-ne32.true (omega arith) w.put_byte-end.ensures)
-      | else-byte-ne32 w ↦ rw (w.out-is, w.end-is) (word_blank row c.loop-i.i _ byte.ensures c.loop-i.invariant.2 w.if-byte-ne32.false) ]),
+        | then-byte-ne32 w ↦ rw (w.out-is, w.end-is) (word_more row c.loop-i.i _ byte.ensures c.loop-i.invariant.2 w.if-byte-ne32.true (omega arith) w.put_byte-end.ensures)
+        | else-byte-ne32 w ↦ rw (w.out-is, w.end-is) (word_blank row c.loop-i.i _ byte.ensures c.loop-i.invariant.2 w.if-byte-ne32.false)
+      ]),
     )
 
 pub returns : goal.returns

@@ -2,7 +2,6 @@
 use Rattle.text_names.proofs.Laws.{found_before, found_here, found_not}
 use Rattle.text_names.specs.Names.{word_count, found_in}
 use native.Mathlib.Omega.{arith}
-use Prim.Native.Nat.{◌-◌}
 use mathlib.Core.Path.{◌≡◌, refl, sym, ◌∙◌}
 use Rattle.text_names.proofs.row_of.Goals.{else-found-eq-WORDS, then-found-eq-WORDS+else-is_word, then-found-eq-WORDS+then-is_word}
 use Rattle.text_names.proofs.row_of.Goals as goal
@@ -18,13 +17,15 @@ loop-row-preserved c =
     let so = c.loop-row.invariant.2 in (
       omega arith,
       (elim c.if-found-eq-WORDS.branch [
-        then-found-eq-WORDS+then-is_word w ↦ omega (arith, w.found-is)
-      | then-found-eq-WORDS+else-is_word w ↦ omega (arith, w.found-is)
-      | else-found-eq-WORDS w ↦ omega (arith, w.found-is) ]),
+        | then-found-eq-WORDS+then-is_word w ↦ omega (arith, w.found-is)
+        | then-found-eq-WORDS+else-is_word w ↦ omega (arith, w.found-is)
+        | else-found-eq-WORDS w ↦ omega (arith, w.found-is)
+      ]),
       (elim c.if-found-eq-WORDS.branch [
-        then-found-eq-WORDS+then-is_word w ↦ w.found-is ∙ found_here word row _ so w.if-found-eq-WORDS.true (sym w.is_word.ensures ∙ w.if-is_word.true)
-      | then-found-eq-WORDS+else-is_word w ↦ w.found-is ∙ found_not word row _ so w.if-found-eq-WORDS.true (sym w.is_word.ensures ∙ w.if-is_word.false)
-      | else-found-eq-WORDS w ↦ w.found-is ∙ found_before word row _ so (omega arith) w.if-found-eq-WORDS.false ]),
+        | then-found-eq-WORDS+then-is_word w ↦ w.found-is ∙ found_here word row _ so w.if-found-eq-WORDS.true (sym w.is_word.ensures ∙ w.if-is_word.true)
+        | then-found-eq-WORDS+else-is_word w ↦ w.found-is ∙ found_not word row _ so w.if-found-eq-WORDS.true (sym w.is_word.ensures ∙ w.if-is_word.false)
+        | else-found-eq-WORDS w ↦ w.found-is ∙ found_before word row _ so (omega arith) w.if-found-eq-WORDS.false
+      ]),
     )
 
 pub returns : goal.returns

@@ -1,0 +1,12 @@
+use native.Mathlib.Omega.{arith}
+use borrow.Author.Tests.{ne_eqb}
+use Rattle.page_fields.proofs.column_field.Goals as goal
+
+pub returns-in-4 : goal.returns-in-4
+returns-in-4 c = (rw c.in-4.is, omega arith)
+
+pub returns-in-2 : goal.returns-in-2
+returns-in-2 c = (rw c.in-2.is, omega arith)
+
+pub returns-in_default : goal.returns-in_default
+returns-in_default c = (simp (ne_eqb _ _ c.in_default.in_default-own.rest.0.1, ne_eqb _ _ c.in_default.in_default-own.rest.1), omega arith)

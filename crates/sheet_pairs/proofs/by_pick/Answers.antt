@@ -1,0 +1,11 @@
+use borrow.Author.Tests.{eq-eqb, ne_eqb}
+use Rattle.sheet_pairs.proofs.by_pick.Goals as goal
+
+pub returns-then-pick-eq0 : goal.returns-then-pick-eq0
+returns-then-pick-eq0 c = rw (eq-eqb _ _ c.if-pick-eq0.true)
+
+pub returns-then-pick-eq1 : goal.returns-then-pick-eq1
+returns-then-pick-eq1 c = rw (ne_eqb _ _ c.if-pick-eq0.false, eq-eqb _ _ c.if-pick-eq1.true)
+
+pub returns : goal.returns
+returns c = rw (ne_eqb _ _ c.if-pick-eq0.false, ne_eqb _ _ c.if-pick-eq1.false)

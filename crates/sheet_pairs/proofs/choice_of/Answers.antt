@@ -1,0 +1,6 @@
+use Rattle.procedure.specs.Pairs.{protected, permitted, split, pair}
+use Rattle.sheet_pairs.proofs.choice_of.Goals as goal
+
+pub returns : goal.returns
+unfolding pair protected permitted split
+returns c = rw (c.pick.ensures, c.permitted_time-permitted.ensures, c.protected_time-protected.ensures)

@@ -1,0 +1,4 @@
+use Rattle.study.proofs.check.Goals as goal
+
+pub returns : goal.returns
+returns c = rw (← c.format_of.ensures.0) c.check.ensures
