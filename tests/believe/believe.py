@@ -56,7 +56,7 @@ PUBLIC = {
 
 NAME = r"[^\s(){}\[\],;.⌜⌝⟦⟧λ∷≡×→≤<:=+*/%-][^\s(){}\[\],;.⌜⌝⟦⟧λ∷≡×→:=+*/%]*"
 HEAD = re.compile(r"^(?:abbrev |unfoldable )?(?:pub )?(?:record |data )?([^\s:]+)(?: .*)? : ")
-USE = re.compile(r"^\s*(?:ghost )?use (Rattle·\S+?)\.\{([^}]*)\};?$")
+USE = re.compile(r"^\s*(?:ghost )?use (Rattle\.\S+?)\.\{([^}]*)\};?$")
 
 
 class Definition:
@@ -69,7 +69,7 @@ class Definition:
 
 def module_of(path, crate):
     """The crate and the spec file, or the declared type, that a module's name says."""
-    m = re.match(r"Rattle·(\w+)(?:·specs\.specs|\.specs)\.(.+)$", path)
+    m = re.match(r"Rattle\.(\w+)\.specs\.(.+)$", path)
     if not m:
         return None
     parts = m.group(2).split(".")
@@ -82,7 +82,7 @@ def uses(text, crate):
     """What each name that a file uses stands for: name -> (crate, file, name)."""
     found = {}
     for line in text.split("\n"):
-        whole = re.match(r"^\s*(?:ghost )?use (Rattle·\S+?) as (\S+?);?$", line)
+        whole = re.match(r"^\s*(?:ghost )?use (Rattle\.\S+?) as (\S+?);?$", line)
         if whole and module_of(whole.group(1), crate):
             # a module under a name of its own: what follows the name is one of its definitions
             module = module_of(whole.group(1), crate)
@@ -154,7 +154,7 @@ def read_declared():
         folder = os.path.join(CRATES, crate, "src")
         for file in sorted(os.listdir(folder)) if os.path.isdir(folder) else []:
             text = open(os.path.join(folder, file), encoding="utf-8").read()
-            for m in re.finditer(r"(?m)^(?:#\[.*\]\n)?(?:pub )?(?:struct|enum) (\w+)(?:\([^;]*\);|\s*\{.*?^\})", text, re.S | re.M):
+            for m in re.finditer(r"(?m)^(?:#\[[^\n]*\]\n)*(?:pub )?(?:struct|enum) (\w+)(?:\([^;]*\);|\s*\{.*?^\})", text, re.S | re.M):
                 d = Definition(crate, "declared", m.group(1))
                 d.lines = [l for l in m.group(0).split("\n") if l.strip()]
                 found[(crate, "declared", m.group(1))] = d
@@ -187,14 +187,14 @@ def closure(start, table, declared, tables):
         body = "\n".join(d.lines)
         known = tables[(d.crate, d.file)]
         for name in names_in(body):
-            for form in (name, "_" + name + "_"):
+            for form in (name, "◌" + name + "◌"):
                 if form in known:
                     queue.append(known[form])
                 elif (d.crate, d.file, form) in table:
                     queue.append((d.crate, d.file, form))
-        # mixfix names, as least_to_most_usually_
+        # mixfix names, as ◌to◌usually◌
         for other in table:
-            if other[:2] == key[:2] and "_" in other[2] and other[2].strip("_").split("_")[0] in names_in(body):
+            if other[:2] == key[:2] and "◌" in other[2] and other[2].strip("◌").split("◌")[0] in names_in(body):
                 queue.append(other)
     return seen
 
@@ -204,9 +204,12 @@ def contracts(crate, wanted):
     text = open(path, encoding="utf-8").read()
     known = uses(text, crate)
     for m in re.finditer(r"(?m)^\s*pub (?:extern \"C\" )?fn (\w+)", text):
-        name, head = m.group(1), re.split(r"\{$|^\s*\{$", text[m.end():], maxsplit=1, flags=re.M)[0]
+        # the contract ends where the body's brace does the line; that of a clause may do so, too
+        name, head = m.group(1), re.split(r"(?m)^(?!.*\b(?:requires|ensures)\b).*\{$", text[m.end():], maxsplit=1)[0]
         if wanted is not None and name not in wanted:
             continue
+        if head.count("{") != head.count("}"):
+            sys.exit(f"{crate}::{name} has a contract that is laid out so that this script cannot read it")
         promise = "\n".join(re.findall(r"ensures(.*?)(?=ensures|\Z)", head, re.S))
         start = [known[n] for n in names_in(promise) if n in known]
         yield name, start, "requires" in head
@@ -239,7 +242,8 @@ def is_working(crate, file):
 
 
 def count(definitions):
-    return sum(1 for d in definitions for line in d.lines if not line.strip().startswith(("--", "//")))
+    # derives say nothing that a promise leans on
+    return sum(1 for d in definitions for line in d.lines if not line.strip().startswith(("--", "//", "#[derive")))
 
 
 def main():
