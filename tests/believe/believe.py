@@ -4,6 +4,7 @@
 usage: believe.py [--list] [--check]
 
 A public call is a `pub fn` of the crate icu, or one of those that the programs make their texts and files with (PUBLIC below).
+What C links, the crate icu_c, has the calls of icu with the same contracts, word for word; that is checked.
 From the names in its `ensures` the definitions in specs/ are followed, through each file's `use` lines, as far as they go; the
 structs and enums that the code declares count where a definition names them. Blank lines and comments are not counted.
 
@@ -14,8 +15,8 @@ All others are working definitions and stand in files of their own: specs/Workin
 The layout is exempt: it names every cell, also those that only proofs and programs ask for.
 
 --list   names every definition, by what it serves
---check  exits with 1 where a promise reaches a working definition, or a definition that serves neither a promise nor a theorem
-         stands among those that do
+--check  exits with 1 where a promise reaches a working definition, a definition that serves neither a promise nor a theorem
+         stands among those that do, or what C links promises otherwise than the calls of icu
 """
 import os
 import re
@@ -199,17 +200,25 @@ def closure(start, table, declared, tables):
     return seen
 
 
-def contracts(crate, wanted):
-    path = os.path.join(CRATES, crate, "src", "lib.rt")
-    text = open(path, encoding="utf-8").read()
-    known = uses(text, crate)
+def heads(crate):
+    """The public functions of a crate, each with its parameters and its contract; and the text that they stand in."""
+    text = open(os.path.join(CRATES, crate, "src", "lib.rt"), encoding="utf-8").read()
+    found = {}
     for m in re.finditer(r"(?m)^\s*pub (?:extern \"C\" )?fn (\w+)", text):
         # the contract ends where the body's brace does the line; that of a clause may do so, too
-        name, head = m.group(1), re.split(r"(?m)^(?!.*\b(?:requires|ensures)\b).*\{$", text[m.end():], maxsplit=1)[0]
+        head = re.split(r"(?m)^(?!.*\b(?:requires|ensures)\b).*\{$", text[m.end():], maxsplit=1)[0]
+        if head.count("{") != head.count("}"):
+            sys.exit(f"{crate}::{m.group(1)} has a contract that is laid out so that this script cannot read it")
+        found[m.group(1)] = head
+    return text, found
+
+
+def contracts(crate, wanted):
+    text, found = heads(crate)
+    known = uses(text, crate)
+    for name, head in found.items():
         if wanted is not None and name not in wanted:
             continue
-        if head.count("{") != head.count("}"):
-            sys.exit(f"{crate}::{name} has a contract that is laid out so that this script cannot read it")
         promise = "\n".join(re.findall(r"ensures(.*?)(?=ensures|\Z)", head, re.S))
         start = [known[n] for n in names_in(promise) if n in known]
         yield name, start, "requires" in head
@@ -267,6 +276,9 @@ def main():
     astray = [d for k, d in table.items() if k[0] != "layout" and not is_working(k[0], k[1]) and k not in everything and k not in stated]
     print(f"{'for the theorems, beside them':32} {count(stated.values()):5} lines, {len(stated):4} definitions")
     print(f"{'working definitions':32} {count(working):5} lines, {len(working):4} definitions")
+    if heads("icu_c")[1] != heads("icu")[1]:
+        print("the calls of icu_c are not those of icu, word for word")
+        failed = True
     for key in sorted(everything):
         if key[1] != "declared" and is_working(key[0], key[1]):
             print("a promise reaches a working definition:", *key)
