@@ -1,7 +1,7 @@
 -- A side whose times are small has small sums; and the plans are put into their struct.
 use mathlib.Core.Path.{◌≡◌, ap}
 use mathlib.Core.Bool.{Bool}
-use Prim.Native.Nat.{ℕ, ◌*◌, ◌≤◌}
+use Prim.Native.Nat.{ℕ, ◌≤◌}
 use native.Mathlib.Omega.{arith}
 use Rattle.kinds.specs.declared.Kind.TheVariants.{TravelTime}
 use Rattle.kinds.specs.Kinds.{Within}

@@ -11,7 +11,7 @@ use Rattle.lists.proofs.Laws.{length-table}
 use Rattle.text.specs.Text.{ascii, Placed}
 use Rattle.text.proofs.Laws.{placed_next}
 use Rattle.layout.specs.declared.Worksheet.{Worksheet}
-use Rattle.layout.specs.declared.Worksheet.TheVariants.{Junction, Point}
+use Rattle.layout.specs.declared.Worksheet.TheVariants.{Junction}
 use Rattle.layout.specs.Sheet.{sheet_count}
 use Rattle.page.specs.Worksheet.{row_width, change_byte, is_listed, change_head, change_rows}
 use Rattle.page.specs.Working.{change_bytes}

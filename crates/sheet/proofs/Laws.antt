@@ -3,7 +3,7 @@ use mathlib.Core.Path.{◌≡◌, refl, ◌∙◌}
 use mathlib.Core.Bool.{Bool, false, ◌||◌}
 use mathlib.Core.List.{List, ◌++◌, append_assoc}
 use Prim.Native.Nat.{ℕ, ◌+◌, ◌*◌, ◌<◌}
-use lib.Dec.{eqb, lit<}
+use lib.Dec.{eqb}
 use lib.ListN.{length, length-append}
 use native.Mathlib.Omega.{arith}
 use Rattle.layout.specs.declared.Worksheet.{Worksheet}
@@ -13,13 +13,12 @@ use Rattle.sheet_cells.proofs.Cells.{pair_length, last_length}
 use Rattle.answers.specs.declared.Answer.TheVariants.{Accepted}
 use Rattle.layout.specs.Entries.{approach_count, EB, WB, NB, SB}
 use Rattle.entries.specs.Layout.{cycle}
-use Rattle.entries.specs.Judging.{judged_for, judged}
+use Rattle.entries.specs.Judging.{judged_for}
 use Rattle.procedure.specs.Approach.{read_approach, is_shared, is_free}
 use Rattle.procedure.specs.Pairs.{line, pick_of, picked_time, through_time, left_time, right_total}
 use Rattle.procedure.specs.Sheet.{lines_at, pair_at, right_at, last_of, last_at, sheet_for}
 use Rattle.entries.specs.declared.Fault.TheVariants.{Shared}
 use Rattle.entries.specs.Judging.{badly_shared}
-use Rattle.entries.specs.Layout.{approach_entry}
 use Rattle.entries.proofs.Laws.{as_junction, fault_free}
 use Rattle.procedure.proofs.Fair.{fair, fair_cycle}
 use Rattle.line_bounds.proofs.Lines.{bounded_lines}

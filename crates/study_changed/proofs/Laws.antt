@@ -8,7 +8,7 @@ use native.Mathlib.Omega.{arith}
 use Rattle.answers.specs.declared.Answer.TheVariants.{Accepted}
 use Rattle.lists.specs.Lists.{over}
 use Rattle.lists.proofs.Laws.{length_over}
-use Rattle.study_numbers.specs.Numbers.{number_bytes, packed}
+use Rattle.study_numbers.specs.Numbers.{packed}
 use Rattle.study_numbers.proofs.Laws.{length-packed}
 use Rattle.layout.specs.Entries.{entry_count}
 use Rattle.text.specs.Text.{Placed}

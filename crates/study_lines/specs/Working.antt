@@ -1,7 +1,6 @@
 -- What the writing of lines leans on: how long a line is at most, and which letters there are.
 use Rattle.std.specs.Prelude.{ℕ, ◌+◌, ◌*◌, ◌≤◌}
 use Rattle.text.specs.Text.{digit_most}
-use Rattle.study_lines.specs.declared.Rating.{Rating}
 use Rattle.study_lines.specs.declared.Site.{Site}
 use Rattle.study_lines.specs.declared.Site.TheVariants.{Rated, Refused}
 

@@ -1,0 +1,6 @@
+use Rattle.diamond_rules.specs.Lines.{best_of}
+use Rattle.diamond_plans.proofs.best_of.Goals as goal
+
+pub returns : goal.returns
+unfolding best_of
+returns c = rw (c.letter_of-letter.ensures, c.icu_of-icu.ensures, c.by_pick-best.ensures, c.pick-picked.ensures)

@@ -1,0 +1,6 @@
+use Rattle.diamond_rules.specs.Lines.{combined}
+use Rattle.diamond_plans.proofs.combined_of.Goals as goal
+
+pub returns : goal.returns
+unfolding combined
+returns c = rw (c.isolated_of.ensures, c.alternate_of.ensures) at c.larger.ensures
