@@ -10,37 +10,55 @@ use program_record::{EAST, Files, WEST};
 const WORDS_BYTES: usize = program_record::WORDS * program_io::WORD_ROOM;
 
 // Reads the file that a word names, if there are as many arguments as there should be.
-fn read(count: usize, words: &[u8], place: usize, area: &mut [u8; AREA_BYTES]) -> Input {
+fn read(
+    rt: &HostRuntime,
+    count: usize,
+    words: &[u8],
+    place: usize,
+    area: &mut [u8; AREA_BYTES],
+) -> Input {
     if program_diamond::takes(count) {
-        return program_io::read_named(program_words::word(words, place), area);
+        return program_io::read_named(rt, program_words::word(words, place), area);
     }
     Input::Failed
 }
 
-fn put_out(lengths: Lengths, printed: &[u8; PRINTED_BYTES], said: &[u8; SAID_BYTES]) {
-    program_io::print(b"icudiamond", printed, lengths.prints);
-    program_io::say(said, lengths.says);
+fn put_out(
+    rt: &HostRuntime,
+    lengths: Lengths,
+    printed: &[u8; PRINTED_BYTES],
+    said: &[u8; SAID_BYTES],
+) {
+    let err = rt.stderr();
+    program_io::print(rt, &err, b"icudiamond", printed, lengths.prints);
+    program_io::say(&err, said, lengths.says);
 }
 
-fn give(call: DiamondCall, words: &[u8], west: &[u8; AREA_BYTES], east: &[u8; AREA_BYTES]) {
+fn give(
+    rt: &HostRuntime,
+    call: DiamondCall,
+    words: &[u8],
+    west: &[u8; AREA_BYTES],
+    east: &[u8; AREA_BYTES],
+) {
     let mut printed = [0u8; PRINTED_BYTES];
     let mut said = [0u8; SAID_BYTES];
     let lengths = program_diamond::run(call, words, west, east, &mut printed, &mut said);
-    put_out(lengths, &printed, &said);
+    put_out(rt, lengths, &printed, &said);
 }
 
-fn run(words: &[u8]) {
+fn run(rt: &HostRuntime, words: &[u8]) {
     let mut first = [0u8; AREA_BYTES];
     let mut second = [0u8; AREA_BYTES];
-    let arguments = os::arg_count();
-    let west = read(arguments, words, WEST, &mut first);
-    let east = read(arguments, words, EAST, &mut second);
+    let arguments = program_io::count_arguments(rt);
+    let west = read(rt, arguments, words, WEST, &mut first);
+    let east = read(rt, arguments, words, EAST, &mut second);
     let files = Files { west, east };
-    give(DiamondCall { arguments, files }, words, &first, &second);
+    give(rt, DiamondCall { arguments, files }, words, &first, &second);
 }
 
-fn main() {
+fn main(rt: HostRuntime) {
     let mut words = [0u8; WORDS_BYTES];
-    let size = program_io::take_words(&mut words);
-    run(program_outcome::front(&words, size));
+    let size = program_io::take_words(&rt, &mut words);
+    run(&rt, program_outcome::front(&words, size));
 }

@@ -3,7 +3,6 @@
 #![tactic(auto)]
 
 use layout::Worksheet;
-use libc::STDIN_FILENO;
 use program_list::PRINTED_BYTES;
 use program_outcome::{AREA_BYTES, Call, Input, SAID_BYTES};
 
@@ -11,38 +10,38 @@ use program_outcome::{AREA_BYTES, Call, Input, SAID_BYTES};
 const WORDS_BYTES: usize = program_io::WORD_ROOM;
 
 // Reads the file that the first word names, or standard input, if there are as many arguments as there should be.
-fn read(count: usize, words: &[u8], area: &mut [u8; AREA_BYTES]) -> Input {
+fn read(rt: &HostRuntime, count: usize, words: &[u8], area: &mut [u8; AREA_BYTES]) -> Input {
     if !program_list::takes(count) {
         return Input::Failed;
     }
     if program_list::is_named(count) {
-        return program_io::read_named(program_words::word(words, 0), area);
+        return program_io::read_named(rt, program_words::word(words, 0), area);
     }
-    program_io::read_open(STDIN_FILENO, area)
+    program_io::read_open(&mut rt.stdin(), area)
 }
 
-fn print(printed: &[u8; PRINTED_BYTES], size: usize) {
-    program_io::print(b"iculist", printed, size);
+fn print(rt: &HostRuntime, printed: &[u8; PRINTED_BYTES], size: usize) {
+    program_io::print(rt, &rt.stderr(), b"iculist", printed, size);
 }
 
-fn run(words: &[u8]) {
+fn run(rt: &HostRuntime, words: &[u8]) {
     let mut area = [0u8; AREA_BYTES];
     let mut printed = [0u8; PRINTED_BYTES];
     let mut said = [0u8; SAID_BYTES];
-    let arguments = os::arg_count();
-    let input = read(arguments, words, &mut area);
+    let arguments = program_io::count_arguments(rt);
+    let input = read(rt, arguments, words, &mut area);
     let call = Call {
         worksheet: Worksheet::Junction,
         arguments,
         input,
     };
     let lengths = program_list::run(call, words, &area, &mut printed, &mut said);
-    print(&printed, lengths.prints);
-    program_io::say(&said, lengths.says);
+    print(rt, &printed, lengths.prints);
+    program_io::say(&rt.stderr(), &said, lengths.says);
 }
 
-fn main() {
+fn main(rt: HostRuntime) {
     let mut words = [0u8; WORDS_BYTES];
-    let size = program_io::take_words(&mut words);
-    run(program_outcome::front(&words, size));
+    let size = program_io::take_words(&rt, &mut words);
+    run(&rt, program_outcome::front(&words, size));
 }

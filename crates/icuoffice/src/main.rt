@@ -8,21 +8,31 @@ use program_open::{STUDY, TEXT};
 use program_open_add::Files;
 use program_outcome::{AREA_BYTES, Lengths, SAID_BYTES};
 use program_target::Found;
+use std::fs::File;
 
 const WORDS_BYTES: usize = program_office::MOST_WORDS * program_io::WORD_ROOM;
 
-fn lock(words: &[u8]) -> i32 {
-    program_io::take_lock(program_words::word(words, STUDY))
+fn lock(rt: &HostRuntime, words: &[u8]) -> Option<File> {
+    program_io::take_lock(rt, &rt.stderr(), program_words::word(words, STUDY))
 }
 
-fn find(words: &[u8], area: &mut [u8; AREA_BYTES]) -> Found {
-    program_io::find(program_words::word(words, STUDY), area)
+fn find(rt: &HostRuntime, words: &[u8], area: &mut [u8; AREA_BYTES]) -> Found {
+    program_io::find(rt, program_words::word(words, STUDY), area)
 }
 
 // Prints, and gives up the lock: it becomes the study where one is written.
-fn settle(words: &[u8], file: i32, printed: &[u8], written: &[u8; OPEN_BYTES], size: usize) {
+fn settle(
+    rt: &HostRuntime,
+    words: &[u8],
+    file: File,
+    printed: &[u8],
+    written: &[u8; OPEN_BYTES],
+    size: usize,
+) {
     let name = program_words::word(words, STUDY);
     program_io::settle_lock(
+        rt,
+        &rt.stderr(),
         b"icuoffice",
         name,
         file,
@@ -31,44 +41,43 @@ fn settle(words: &[u8], file: i32, printed: &[u8], written: &[u8; OPEN_BYTES], s
     );
 }
 
-fn start(words: &[u8]) {
+fn start(rt: &HostRuntime, words: &[u8]) {
     let mut area = [0u8; AREA_BYTES];
     let mut written = [0u8; OPEN_BYTES];
     let mut said = [0u8; SAID_BYTES];
-    let file = lock(words);
-    if file < 0 {
+    let Some(file) = lock(rt, words) else {
         return;
-    }
-    let found = find(words, &mut area);
+    };
+    let found = find(rt, words, &mut area);
     let lengths = program_office::start(found, words, &mut written, &mut said);
-    program_io::say(&said, lengths.says);
-    settle(words, file, b"", &written, lengths.writes);
+    program_io::say(&rt.stderr(), &said, lengths.says);
+    settle(rt, words, file, b"", &written, lengths.writes);
 }
 
 fn settle_add(
+    rt: &HostRuntime,
     words: &[u8],
-    file: i32,
+    file: File,
     printed: &[u8; program_open_add::PRINTED_BYTES],
     written: &[u8; OPEN_BYTES],
     lengths: Lengths,
 ) {
     let shown = program_outcome::front(printed, lengths.prints);
-    settle(words, file, shown, written, lengths.writes);
+    settle(rt, words, file, shown, written, lengths.writes);
 }
 
 // The text is read first, since it may come slowly and others wait for the lock.
-fn add(words: &[u8]) {
+fn add(rt: &HostRuntime, words: &[u8]) {
     let mut area = [0u8; AREA_BYTES];
     let mut text = [0u8; AREA_BYTES];
     let mut printed = [0u8; program_open_add::PRINTED_BYTES];
     let mut written = [0u8; OPEN_BYTES];
     let mut said = [0u8; SAID_BYTES];
-    let input = program_io::read_named(program_words::word(words, TEXT), &mut text);
-    let file = lock(words);
-    if file < 0 {
+    let input = program_io::read_named(rt, program_words::word(words, TEXT), &mut text);
+    let Some(file) = lock(rt, words) else {
         return;
-    }
-    let found = find(words, &mut area);
+    };
+    let found = find(rt, words, &mut area);
     let files = Files {
         study: found,
         text: input,
@@ -82,31 +91,31 @@ fn add(words: &[u8]) {
         &mut written,
         &mut said,
     );
-    program_io::say(&said, lengths.says);
-    settle_add(words, file, &printed, &written, lengths);
+    program_io::say(&rt.stderr(), &said, lengths.says);
+    settle_add(rt, words, file, &printed, &written, lengths);
 }
 
 fn settle_amend(
+    rt: &HostRuntime,
     words: &[u8],
-    file: i32,
+    file: File,
     printed: &[u8; program_open_amend::PRINTED_BYTES],
     written: &[u8; OPEN_BYTES],
     lengths: Lengths,
 ) {
     let shown = program_outcome::front(printed, lengths.prints);
-    settle(words, file, shown, written, lengths.writes);
+    settle(rt, words, file, shown, written, lengths.writes);
 }
 
-fn amend(words: &[u8]) {
+fn amend(rt: &HostRuntime, words: &[u8]) {
     let mut area = [0u8; AREA_BYTES];
     let mut printed = [0u8; program_open_amend::PRINTED_BYTES];
     let mut written = [0u8; OPEN_BYTES];
     let mut said = [0u8; SAID_BYTES];
-    let file = lock(words);
-    if file < 0 {
+    let Some(file) = lock(rt, words) else {
         return;
-    }
-    let found = find(words, &mut area);
+    };
+    let found = find(rt, words, &mut area);
     let lengths = program_open_amend::run(
         found,
         words,
@@ -115,52 +124,52 @@ fn amend(words: &[u8]) {
         &mut written,
         &mut said,
     );
-    program_io::say(&said, lengths.says);
-    settle_amend(words, file, &printed, &written, lengths);
+    program_io::say(&rt.stderr(), &said, lengths.says);
+    settle_amend(rt, words, file, &printed, &written, lengths);
 }
 
-fn print_read(printed: &[u8; program_open_read::PRINTED_BYTES], size: usize) {
-    program_io::print(b"icuoffice", printed, size);
+fn print_read(rt: &HostRuntime, printed: &[u8; program_open_read::PRINTED_BYTES], size: usize) {
+    program_io::print(rt, &rt.stderr(), b"icuoffice", printed, size);
 }
 
 // A study that is only read needs no lock: it is whole at any time.
-fn read(words: &[u8]) {
+fn read(rt: &HostRuntime, words: &[u8]) {
     let mut area = [0u8; AREA_BYTES];
     let mut printed = [0u8; program_open_read::PRINTED_BYTES];
     let mut said = [0u8; SAID_BYTES];
-    let input = program_io::read_named(program_words::word(words, STUDY), &mut area);
+    let input = program_io::read_named(rt, program_words::word(words, STUDY), &mut area);
     let lengths = program_open_read::run(input, words, &area, &mut printed, &mut said);
-    print_read(&printed, lengths.prints);
-    program_io::say(&said, lengths.says);
+    print_read(rt, &printed, lengths.prints);
+    program_io::say(&rt.stderr(), &said, lengths.says);
 }
 
-fn print_told(printed: &[u8; program_office::TOLD_BYTES], size: usize) {
-    program_io::print(b"icuoffice", printed, size);
+fn print_told(rt: &HostRuntime, printed: &[u8; program_office::TOLD_BYTES], size: usize) {
+    program_io::print(rt, &rt.stderr(), b"icuoffice", printed, size);
 }
 
-fn tell(job: Job) {
+fn tell(rt: &HostRuntime, job: Job) {
     let mut printed = [0u8; program_office::TOLD_BYTES];
     let mut said = [0u8; SAID_BYTES];
     let lengths = program_office::tell(job, &mut printed, &mut said);
-    print_told(&printed, lengths.prints);
-    program_io::say(&said, lengths.says);
+    print_told(rt, &printed, lengths.prints);
+    program_io::say(&rt.stderr(), &said, lengths.says);
 }
 
-fn run(words: &[u8]) {
-    let job = program_office::job_of(os::arg_count(), words);
+fn run(rt: &HostRuntime, words: &[u8]) {
+    let job = program_office::job_of(program_io::count_arguments(rt), words);
     match job {
-        Job::New => start(words),
-        Job::Add => add(words),
-        Job::Amend => amend(words),
-        Job::Read => read(words),
-        Job::Use => tell(job),
-        Job::Help => tell(job),
-        Job::Version => tell(job),
+        Job::New => start(rt, words),
+        Job::Add => add(rt, words),
+        Job::Amend => amend(rt, words),
+        Job::Read => read(rt, words),
+        Job::Use => tell(rt, job),
+        Job::Help => tell(rt, job),
+        Job::Version => tell(rt, job),
     }
 }
 
-fn main() {
+fn main(rt: HostRuntime) {
     let mut words = [0u8; WORDS_BYTES];
-    let size = program_io::take_words(&mut words);
-    run(program_outcome::front(&words, size));
+    let size = program_io::take_words(&rt, &mut words);
+    run(&rt, program_outcome::front(&words, size));
 }

@@ -9,63 +9,73 @@ use program_sheet::PRINTED_BYTES;
 const WORDS_BYTES: usize = 3 * program_io::WORD_ROOM;
 
 // Reads the file that the first word names, if there are as many arguments as there should be.
-fn read(count: usize, words: &[u8], area: &mut [u8; AREA_BYTES]) -> Input {
+fn read(rt: &HostRuntime, count: usize, words: &[u8], area: &mut [u8; AREA_BYTES]) -> Input {
     if program_sheet::takes(count) {
-        return program_io::read_named(program_words::word(words, 0), area);
+        return program_io::read_named(rt, program_words::word(words, 0), area);
     }
     Input::Failed
 }
 
 // Prints and says, and answers whether all was printed.
-fn put_out(lengths: Lengths, printed: &[u8; PRINTED_BYTES], said: &[u8; SAID_BYTES]) -> bool {
-    let is_printed = program_io::print(b"icusheet", printed, lengths.prints);
-    program_io::say(said, lengths.says);
+fn put_out(
+    rt: &HostRuntime,
+    lengths: Lengths,
+    printed: &[u8; PRINTED_BYTES],
+    said: &[u8; SAID_BYTES],
+) -> bool {
+    let err = rt.stderr();
+    let is_printed = program_io::print(rt, &err, b"icusheet", printed, lengths.prints);
+    program_io::say(&err, said, lengths.says);
     is_printed
 }
 
-fn run_once(call: Call, words: &[u8], area: &[u8; AREA_BYTES]) {
+fn run_once(rt: &HostRuntime, call: Call, words: &[u8], area: &[u8; AREA_BYTES]) {
     let mut printed = [0u8; PRINTED_BYTES];
     let mut said = [0u8; SAID_BYTES];
     let lengths = program_sheet::run(call, words, area, &mut printed, &mut said);
-    put_out(lengths, &printed, &said);
+    put_out(rt, lengths, &printed, &said);
 }
 
-fn put_page(call: Call, words: &[u8], area: &[u8; AREA_BYTES], site: u32) -> bool {
+fn put_page(
+    rt: &HostRuntime,
+    call: Call,
+    words: &[u8],
+    area: &[u8; AREA_BYTES],
+    site: u32,
+) -> bool {
     let mut printed = [0u8; PRINTED_BYTES];
     let mut said = [0u8; SAID_BYTES];
     let lengths = program_sheet::page(call, words, area, site, &mut printed, &mut said);
-    put_out(lengths, &printed, &said)
+    put_out(rt, lengths, &printed, &said)
 }
 
 // Page after page, where the sheets of all sites are asked for, until one cannot be printed.
-fn put_pages(call: Call, words: &[u8], area: &[u8; AREA_BYTES]) {
+fn put_pages(rt: &HostRuntime, call: Call, words: &[u8], area: &[u8; AREA_BYTES]) {
     let pages = program_sheet::pages(call, words, area);
-    let mut site: u32 = 0;
-    while site < pages {
-        if !put_page(call, words, area, site) {
+    for site in 0..pages {
+        if !put_page(rt, call, words, area, site) {
             return;
         }
-        site += 1;
     }
 }
 
-fn run(words: &[u8]) {
+fn run(rt: &HostRuntime, words: &[u8]) {
     let mut area = [0u8; AREA_BYTES];
     let worksheet = program_wish::worksheet_of(words);
     let rest = program_wish::words_for(worksheet, words);
-    let arguments = program_wish::arguments_for(worksheet, os::arg_count());
-    let input = read(arguments, rest, &mut area);
+    let arguments = program_wish::arguments_for(worksheet, program_io::count_arguments(rt));
+    let input = read(rt, arguments, rest, &mut area);
     let call = Call {
         worksheet,
         arguments,
         input,
     };
-    run_once(call, rest, &area);
-    put_pages(call, rest, &area);
+    run_once(rt, call, rest, &area);
+    put_pages(rt, call, rest, &area);
 }
 
-fn main() {
+fn main(rt: HostRuntime) {
     let mut words = [0u8; WORDS_BYTES];
-    let size = program_io::take_words(&mut words);
-    run(program_outcome::front(&words, size));
+    let size = program_io::take_words(&rt, &mut words);
+    run(&rt, program_outcome::front(&words, size));
 }

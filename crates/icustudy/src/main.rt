@@ -3,7 +3,7 @@
 #![tactic(auto)]
 
 use program_make::ALL_ENTRIES;
-use program_outcome::{AREA_BYTES, SAID_BYTES};
+use program_outcome::{AREA_BYTES, SAID_BYTES, WORD_BYTES};
 use program_study::{Job, STUDY};
 
 // Room for the job, a study, and a site or a file to write.
@@ -11,34 +11,46 @@ const WORDS_BYTES: usize = 3 * program_io::WORD_ROOM;
 
 // Reads the text that an argument names, and adds its entries.
 fn add_text(
+    rt: &HostRuntime,
     argument: usize,
     site: u32,
     all: &mut [u32; ALL_ENTRIES],
     said: &mut [u8; SAID_BYTES],
 ) -> usize {
-    let mut name = io::buffer();
+    let mut name = [0u8; WORD_BYTES];
     let mut area = [0u8; AREA_BYTES];
-    let size = os::arg(argument, &mut name);
-    let input = program_io::read_named(&name[..size], &mut area);
+    let size = program_io::take_argument(rt, argument, &mut name);
+    let input = program_io::read_named(rt, &name[..size], &mut area);
     program_make::add(&name[..size], input, &area, site, all, said)
 }
 
 // Text after text, until something is said.
-fn add_texts(texts: u32, all: &mut [u32; ALL_ENTRIES], said: &mut [u8; SAID_BYTES]) -> usize {
-    let mut site: u32 = 0;
-    while site < texts {
-        let says = add_text(program_study::BEFORE_TEXTS + site as usize, site, all, said);
+fn add_texts(
+    rt: &HostRuntime,
+    texts: u32,
+    all: &mut [u32; ALL_ENTRIES],
+    said: &mut [u8; SAID_BYTES],
+) -> usize {
+    for site in 0..texts {
+        let argument = program_study::BEFORE_TEXTS + site as usize;
+        let says = add_text(rt, argument, site, all, said);
         if says != 0 {
             return says;
         }
-        site += 1;
     }
     0
 }
 
 // Writes a study to the file that an argument names.
-fn write_out(name: &[u8], written: &[u8; program_make::WRITTEN_BYTES], size: usize) {
+fn write_out(
+    rt: &HostRuntime,
+    name: &[u8],
+    written: &[u8; program_make::WRITTEN_BYTES],
+    size: usize,
+) {
     program_io::give(
+        rt,
+        &rt.stderr(),
         b"icustudy",
         name,
         b"",
@@ -47,73 +59,73 @@ fn write_out(name: &[u8], written: &[u8; program_make::WRITTEN_BYTES], size: usi
     );
 }
 
-fn write(words: &[u8], texts: u32, all: &[u32; ALL_ENTRIES]) {
+fn write(rt: &HostRuntime, words: &[u8], texts: u32, all: &[u32; ALL_ENTRIES]) {
     let mut written = [0u8; program_make::WRITTEN_BYTES];
     let size = program_make::make(texts, all, &mut written);
-    write_out(program_words::word(words, STUDY), &written, size);
+    write_out(rt, program_words::word(words, STUDY), &written, size);
 }
 
-fn make(words: &[u8], texts: u32) {
+fn make(rt: &HostRuntime, words: &[u8], texts: u32) {
     let mut all = [0u32; ALL_ENTRIES];
     let mut said = [0u8; SAID_BYTES];
-    let says = add_texts(texts, &mut all, &mut said);
+    let says = add_texts(rt, texts, &mut all, &mut said);
     if says != 0 {
-        program_io::say(&said, says);
+        program_io::say(&rt.stderr(), &said, says);
         return;
     }
-    write(words, texts, &all);
+    write(rt, words, texts, &all);
 }
 
-fn print(printed: &[u8; program_study::PRINTED_BYTES], size: usize) {
-    program_io::print(b"icustudy", printed, size);
+fn print(rt: &HostRuntime, printed: &[u8; program_study::PRINTED_BYTES], size: usize) {
+    program_io::print(rt, &rt.stderr(), b"icustudy", printed, size);
 }
 
-fn show(words: &[u8]) {
+fn show(rt: &HostRuntime, words: &[u8]) {
     let mut area = [0u8; AREA_BYTES];
     let mut printed = [0u8; program_study::PRINTED_BYTES];
     let mut said = [0u8; SAID_BYTES];
-    let input = program_io::read_named(program_words::word(words, STUDY), &mut area);
+    let input = program_io::read_named(rt, program_words::word(words, STUDY), &mut area);
     let lengths = program_study::show(input, words, &area, &mut printed, &mut said);
-    print(&printed, lengths.prints);
-    program_io::say(&said, lengths.says);
+    print(rt, &printed, lengths.prints);
+    program_io::say(&rt.stderr(), &said, lengths.says);
 }
 
-fn convert(words: &[u8]) {
+fn convert(rt: &HostRuntime, words: &[u8]) {
     let mut area = [0u8; AREA_BYTES];
     let mut written = [0u8; program_convert::WRITTEN_BYTES];
     let mut said = [0u8; SAID_BYTES];
-    let input = program_io::read_named(program_words::word(words, STUDY), &mut area);
+    let input = program_io::read_named(rt, program_words::word(words, STUDY), &mut area);
     let lengths = program_convert::run(input, words, &area, &mut written, &mut said);
-    program_io::say(&said, lengths.says);
+    program_io::say(&rt.stderr(), &said, lengths.says);
     let name = program_words::word(words, program_convert::NEW);
-    write_out(name, &written, lengths.writes);
+    write_out(rt, name, &written, lengths.writes);
 }
 
-fn tell(job: Job) {
+fn tell(rt: &HostRuntime, job: Job) {
     let mut printed = [0u8; program_study::PRINTED_BYTES];
     let mut said = [0u8; SAID_BYTES];
     let lengths = program_study::tell(job, &mut printed, &mut said);
-    print(&printed, lengths.prints);
-    program_io::say(&said, lengths.says);
+    print(rt, &printed, lengths.prints);
+    program_io::say(&rt.stderr(), &said, lengths.says);
 }
 
-fn run(words: &[u8]) {
-    let count = os::arg_count();
+fn run(rt: &HostRuntime, words: &[u8]) {
+    let count = program_io::count_arguments(rt);
     let job = program_study::job_of(count, program_words::word(words, program_study::JOB));
     match job {
-        Job::Make => make(words, program_study::texts_in(count)),
-        Job::Show => show(words),
-        Job::Convert => convert(words),
-        Job::Point => tell(job),
-        Job::TooMany => tell(job),
-        Job::Use => tell(job),
-        Job::Help => tell(job),
-        Job::Version => tell(job),
+        Job::Make => make(rt, words, program_study::texts_in(count)),
+        Job::Show => show(rt, words),
+        Job::Convert => convert(rt, words),
+        Job::Point => tell(rt, job),
+        Job::TooMany => tell(rt, job),
+        Job::Use => tell(rt, job),
+        Job::Help => tell(rt, job),
+        Job::Version => tell(rt, job),
     }
 }
 
-fn main() {
+fn main(rt: HostRuntime) {
     let mut words = [0u8; WORDS_BYTES];
-    let size = program_io::take_words(&mut words);
-    run(program_outcome::front(&words, size));
+    let size = program_io::take_words(&rt, &mut words);
+    run(&rt, program_outcome::front(&words, size));
 }

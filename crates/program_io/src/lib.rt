@@ -1,23 +1,25 @@
 // Input and output: arguments and files in lent areas, and areas written out. What the system reads or writes, no promise
 // can say; what is read lies within its area. A file is written whole beside its place, and then takes its name. Where several
-// may change one file, the new one beside it has one name only, and is the lock.
+// may change one file, the new one beside it has one name only, and is the lock. The system's names are text: a name that is not
+// UTF-8 is one of no file.
 #![tactic(auto)]
 
-ghost use Rattle.std.specs.Prelude.{◌+◌, ◌≤◌, ◌<◌, length};
+ghost use Rattle.std.specs.Prelude.{◌+◌, ◌≤◌, ◌<◌, length, IsTrue};
+ghost use Rattle.std.specs.Io.KnownBytes.{Appends};
 ghost use Rattle.program_outcome.specs.Outcome.{word_most};
 ghost use Rattle.io.specs.Counts.{IsPrefixLen};
-ghost use Rattle.libc.specs.Io.{Ended};
 ghost use Rattle.program_io.specs.Input.{Within, beside_most};
 
-use libc::{PATH_MAX, STDERR_FILENO, STDOUT_FILENO};
 use program_outcome::{AREA_BYTES, Input, Remark, SAID_BYTES, WORD_BYTES};
 use program_target::Found;
+use std::env::FillError;
+use std::fs::{OpenFile, OpenOptions};
+use std::io::{ErrorKind, Read, Seek, Write};
+use std::rt::{Env, Files};
+use std::{fs, io, str};
 
 // The room that an argument takes among the words.
 pub const WORD_ROOM: usize = WORD_BYTES + 1;
-
-// The last byte of a name for the system, which is 0.
-const LAST: usize = PATH_MAX - 1;
 
 // How many names there are for a new file beside the one that it is for, and where the digit stands that tells them apart.
 const PARTS: u32 = 10;
@@ -32,45 +34,65 @@ const ENDING_BYTES: usize = 6;
 
 const BESIDE_BYTES: usize = WORD_BYTES + ENDING_BYTES;
 
-// Takes an argument, and ends it by a byte 0; one that is too long is taken as one of no bytes.
-fn take_word(words: &mut [u8], at: usize, argument: usize) -> usize
+// How many arguments there are, the program's own name among them.
+pub fn count_arguments(env: &impl Env) -> usize {
+    let mut none = [0u8; 0];
+    for argument in 0..usize::MAX {
+        if let Err(FillError::NotPresent) = env.arg(argument, &mut none) {
+            return argument;
+        }
+    }
+    usize::MAX
+}
+
+// Puts an argument at the start of the area; how many bytes it has. One that is too long is taken as one of no bytes.
+pub fn take_argument(env: &impl Env, argument: usize, area: &mut [u8]) -> usize
+    ensures { result ≤ length area.new }
+{
+    match env.arg(argument, area) {
+        Ok(size) => size,
+        Err(_) => 0,
+    }
+}
+
+// Takes an argument, and ends it by a byte 0.
+fn take_word(env: &impl Env, words: &mut [u8], at: usize, argument: usize) -> usize
     requires { at + word_most < length words.old }
     ensures { result ≤ length words.old }
 {
     let end = at + WORD_BYTES;
-    let past = at + os::arg(argument, &mut words[at..end]);
+    let past = at + take_argument(env, argument, &mut words[at..end]);
     words[past] = 0;
     past + 1
 }
 
 // Takes the arguments after the program's own name, as many as there is room for; how many bytes they are.
-pub fn take_words(words: &mut [u8]) -> usize {
-    let count = os::arg_count();
+pub fn take_words(env: &impl Env, words: &mut [u8]) -> usize
+    ensures { result ≤ length words.new }
+{
+    let count = count_arguments(env);
     let mut at: usize = 0;
-    let mut argument: usize = 1;
-    while argument < count {
+    for argument in 1..count {
         if words.len() - at < WORD_ROOM {
             return at;
         }
-        at = take_word(words, at, argument);
-        argument += 1;
+        at = take_word(env, words, at, argument);
     }
     at
 }
 
 // One read, into the front of the lent bytes.
-fn read_once(file: i32, area: &mut [u8]) -> Input
+fn read_once<F: Read>(file: &mut F, area: &mut [u8]) -> Input
     ensures { Within result (length area.new) }
 {
-    let got = libc::read(file, area);
-    if got < 0 {
-        return Input::Failed;
+    match file.read(area) {
+        Ok(count) => Input::Read(count),
+        Err(_) => Input::Failed,
     }
-    Input::Read(io::count(got, area))
 }
 
 // Reads until the file ends, the lent bytes are full or a read fails.
-pub fn read_open(file: i32, area: &mut [u8]) -> Input
+pub fn read_open<F: Read>(file: &mut F, area: &mut [u8]) -> Input
     ensures { Within result (length area.new) }
 {
     let mut done: usize = 0;
@@ -87,41 +109,31 @@ pub fn read_open(file: i32, area: &mut [u8]) -> Input
     Input::Read(done)
 }
 
-pub fn read_named(path: &[u8], area: &mut [u8]) -> Input
+pub fn read_named(files: &impl Files, path: &[u8], area: &mut [u8]) -> Input
     ensures { Within result (length area.new) }
 {
-    let file = os::open_read(path);
-    if file < 0 {
+    let Ok(path) = str::from_utf8(path) else {
         return Input::Failed;
+    };
+    let Ok(mut file) = fs::open(files, path) else {
+        return Input::Failed;
+    };
+    read_open(&mut file, area)
+}
+
+fn is_link(files: &impl Files, name: &str) -> bool {
+    match fs::symlink_metadata(files, name) {
+        Ok(found) => found.is_symlink(),
+        Err(_) => false,
     }
-    let input = read_open(file, area);
-    libc::close(file);
-    input
-}
-
-// A name for the system; no file has one that is longer than what is kept of it.
-fn ended(name: &[u8]) -> [u8; PATH_MAX]
-    ensures { Ended result }
-{
-    let mut path = io::buffer();
-    text::put_bytes(&mut path, 0, program_outcome::front(name, LAST));
-    path[LAST] = 0;
-    path
-}
-
-fn is_link(name: &[u8]) -> bool {
-    let path = ended(name);
-    let mut text = io::buffer();
-    libc::readlink(&path, &mut text) >= 0
 }
 
 // Reads a file that was opened at its start; what has no start is no file, and reading it could wait for ever.
-fn find_open(file: i32, area: &mut [u8]) -> Found {
-    if libc::lseek(file, 0, libc::SEEK_CUR) != 0 {
+fn find_open<F: Read + Seek>(file: &mut F, area: &mut [u8]) -> Found {
+    let Ok(0) = file.stream_position() else {
         return Found::Closed;
-    }
-    let input = read_open(file, area);
-    let Input::Read(size) = input else {
+    };
+    let Input::Read(size) = read_open(file, area) else {
         return Found::Closed;
     };
     Found::Bytes(size)
@@ -129,32 +141,30 @@ fn find_open(file: i32, area: &mut [u8]) -> Found {
 
 // What there is where a file is to be written; it stays as it is. It is opened for writing, too, since it may be protected.
 // No file has a name of no bytes.
-pub fn find(name: &[u8], area: &mut [u8]) -> Found {
-    if name.len() == 0 {
+pub fn find(files: &impl Files, name: &[u8], area: &mut [u8]) -> Found {
+    if name.is_empty() {
         return Found::Closed;
     }
-    if is_link(name) {
+    let Ok(name) = str::from_utf8(name) else {
+        return Found::Closed;
+    };
+    if is_link(files, name) {
         return Found::Link;
     }
-    let file = os::open_update(name);
-    if file < 0 {
-        if os::errno() == libc::ENOENT {
-            return Found::Absent;
-        }
-        return Found::Closed;
+    match OpenOptions::new().read(true).write(true).open(files, name) {
+        Ok(mut file) => find_open(&mut file, area),
+        Err(e) if e.kind() == ErrorKind::NotFound => Found::Absent,
+        Err(_) => Found::Closed,
     }
-    let found = find_open(file, area);
-    libc::close(file);
-    found
 }
 
 // Whether a file may be written there; says why not.
-fn is_free(name: &[u8], whole: bool) -> bool {
+fn is_free(files: &impl Files, err: &impl Print, name: &[u8], whole: bool) -> bool {
     let mut area = [0u8; AREA_BYTES];
     let mut said = [0u8; SAID_BYTES];
-    let found = find(name, &mut area);
+    let found = find(files, name, &mut area);
     let says = program_target::judge(found, name, &area, whole, &mut said);
-    say(&said, says);
+    say(err, &said, says);
     says == 0
 }
 
@@ -175,117 +185,136 @@ fn put_beside(name: &[u8], ending: &[u8], path: &mut [u8]) -> usize
 }
 
 // Makes the file beside, if none has its name.
-fn make_beside(name: &[u8], ending: &[u8]) -> i32 {
+fn make_beside<R: Files>(files: &R, name: &[u8], ending: &[u8]) -> io::Result<R::File> {
     let mut path = [0u8; BESIDE_BYTES];
     let size = put_beside(name, ending, &mut path);
-    os::create(&path[..size])
+    match str::from_utf8(&path[..size]) {
+        Ok(path) => OpenOptions::new()
+            .write(true)
+            .create_new(true)
+            .open(files, path),
+        Err(_) => Err(io::Error::from(ErrorKind::InvalidFilename)),
+    }
 }
 
-fn remove_beside(name: &[u8], ending: &[u8]) {
+fn remove_beside(files: &impl Files, name: &[u8], ending: &[u8]) {
     let mut path = [0u8; BESIDE_BYTES];
     let size = put_beside(name, ending, &mut path);
-    os::unlink(&path[..size]);
+    if let Ok(path) = str::from_utf8(&path[..size]) {
+        let _ = fs::remove_file(files, path);
+    }
 }
 
 // Gives a file beside the name that it is for, in one step of the system; whatever had the name before loses it then.
-fn rename_beside(name: &[u8], ending: &[u8]) -> bool {
+fn rename_beside(files: &impl Files, name: &[u8], ending: &[u8]) -> bool {
     let mut path = [0u8; BESIDE_BYTES];
     let size = put_beside(name, ending, &mut path);
-    os::rename(&path[..size], name) == 0
+    let (Ok(path), Ok(name)) = (str::from_utf8(&path[..size]), str::from_utf8(name)) else {
+        return false;
+    };
+    fs::rename(files, path, name).is_ok()
 }
 
 // Fills a new file; every step must go well, the last one too.
-fn fill(file: i32, bytes: &[u8]) -> bool {
-    if !io::write_all(file, bytes) {
-        return false;
-    }
-    libc::fsync(file) == 0
+fn fill<F: Write + OpenFile>(file: &mut F, bytes: &[u8]) -> bool
+    ensures { IsTrue result → Appends (F.contents file.old) (F.contents file.new) bytes.now }
+{
+    file.write_all(bytes).is_ok() && file.sync_all().is_ok()
 }
 
-fn fill_and_close(file: i32, bytes: &[u8]) -> bool {
-    let is_filled = fill(file, bytes);
-    if libc::close(file) != 0 {
-        return false;
-    }
-    is_filled
+// The file is closed once it is let go; what the disk refuses is told before.
+fn fill_and_close<F: Write + OpenFile + Drop>(mut file: F, bytes: &[u8]) -> bool {
+    fill(&mut file, bytes)
 }
 
 // Writes the bytes to a new file beside, under the first name that is free; its number, or how many there are where it cannot
 // be written whole, and then it is not left there.
-fn write_beside(name: &[u8], bytes: &[u8]) -> u32 {
-    let mut number: u32 = 0;
-    while number < PARTS {
+fn write_beside(files: &impl Files, name: &[u8], bytes: &[u8]) -> u32 {
+    for number in 0..PARTS {
         let ending = part(number);
-        let file = make_beside(name, &ending);
-        if file >= 0 {
+        if let Ok(file) = make_beside(files, name, &ending) {
             if fill_and_close(file, bytes) {
                 return number;
             }
-            remove_beside(name, &ending);
+            remove_beside(files, name, &ending);
             return PARTS;
         }
-        number += 1;
     }
     PARTS
 }
 
 // Writes the front of an area, and answers whether all was written.
-pub fn put_out(file: i32, area: &[u8], size: usize) -> bool {
-    io::write_all(file, program_outcome::front(area, size))
+pub fn put_out(out: &impl Print, area: &[u8], size: usize) -> bool {
+    out.write_all(program_outcome::front(area, size)).is_ok()
 }
 
-pub fn say(said: &[u8; SAID_BYTES], size: usize) {
-    put_out(STDERR_FILENO, said, size);
+pub fn say(err: &impl Print, said: &[u8; SAID_BYTES], size: usize) {
+    put_out(err, said, size);
 }
 
-fn say_of(word: &[u8], remark: Remark) {
+fn say_of(err: &impl Print, word: &[u8], remark: Remark) {
     let mut said = [0u8; SAID_BYTES];
     let says = program_outcome::say(word, remark, &mut said);
-    say(&said, says);
+    say(err, &said, says);
 }
 
 // Prints the front of an area, and answers whether all was printed; says so where it was not.
-pub fn print(program: &[u8], area: &[u8], size: usize) -> bool {
-    if put_out(STDOUT_FILENO, area, size) {
+pub fn print(out: &impl Print, err: &impl Print, program: &[u8], area: &[u8], size: usize) -> bool {
+    if put_out(out, area, size) {
         return true;
     }
-    say_of(program, Remark::NoOutput);
+    say_of(err, program, Remark::NoOutput);
     false
 }
 
 // Puts a file that was written beside in its place, once what there is to print is printed; else it is removed.
-fn settle(program: &[u8], name: &[u8], ending: &[u8], printed: &[u8]) {
-    if !print(program, printed, printed.len()) {
-        remove_beside(name, ending);
+fn settle<R: Files + Print>(
+    rt: &R,
+    err: &impl Print,
+    program: &[u8],
+    name: &[u8],
+    ending: &[u8],
+    printed: &[u8],
+) {
+    if !print(rt, err, program, printed, printed.len()) {
+        remove_beside(rt, name, ending);
         return;
     }
-    if rename_beside(name, ending) {
+    if rename_beside(rt, name, ending) {
         return;
     }
-    remove_beside(name, ending);
-    say_of(name, Remark::Unwritten);
+    remove_beside(rt, name, ending);
+    say_of(err, name, Remark::Unwritten);
 }
 
 // Prints, and writes the file of that name, if there is something for it: both, or nothing and what is said. What had that name
 // stays whole until the new file is. Whether all that was asked for was done is told, since a study is replaced only then.
-pub fn give(program: &[u8], name: &[u8], printed: &[u8], written: &[u8], whole: bool) {
-    if written.len() == 0 {
-        print(program, printed, printed.len());
+pub fn give<R: Files + Print>(
+    rt: &R,
+    err: &impl Print,
+    program: &[u8],
+    name: &[u8],
+    printed: &[u8],
+    written: &[u8],
+    whole: bool,
+) {
+    if written.is_empty() {
+        print(rt, err, program, printed, printed.len());
         return;
     }
-    if !is_free(name, whole) {
+    if !is_free(rt, err, name, whole) {
         return;
     }
-    let number = write_beside(name, written);
+    let number = write_beside(rt, name, written);
     if number == PARTS {
-        say_of(name, Remark::Unwritten);
+        say_of(err, name, Remark::Unwritten);
         return;
     }
-    settle(program, name, &part(number), printed);
+    settle(rt, err, program, name, &part(number), printed);
 }
 
 // Says of a lock that it stands.
-fn say_locked(name: &[u8]) {
+fn say_locked(err: &impl Print, name: &[u8]) {
     let mut path = [0u8; BESIDE_BYTES];
     let mut said = [0u8; SAID_BYTES];
     let size = put_beside(name, &LOCK, &mut path);
@@ -294,44 +323,87 @@ fn say_locked(name: &[u8]) {
         &path[..size],
         b"stands while somebody changes the study: try again, or remove it if nobody is at work\n",
     );
-    say(&said, says);
+    say(err, &said, says);
 }
 
 // Takes the lock of a file, which nobody else has then: it is a new file beside, open for writing. Where it cannot be taken,
-// says why and answers -1. No file has a name of no bytes.
-pub fn take_lock(name: &[u8]) -> i32 {
-    if name.len() == 0 {
-        say_of(name, Remark::Unwritten);
-        return -1;
+// says why and answers none. No file has a name of no bytes.
+pub fn take_lock<R: Files>(files: &R, err: &impl Print, name: &[u8]) -> Option<R::File> {
+    if name.is_empty() {
+        say_of(err, name, Remark::Unwritten);
+        return None;
     }
-    let file = make_beside(name, &LOCK);
-    if file >= 0 {
-        return file;
+    match make_beside(files, name, &LOCK) {
+        Ok(file) => Some(file),
+        Err(e) if e.kind() == ErrorKind::AlreadyExists => {
+            say_locked(err, name);
+            None
+        }
+        Err(_) => {
+            say_of(err, name, Remark::Unwritten);
+            None
+        }
     }
-    if os::errno() == libc::EEXIST {
-        say_locked(name);
-        return -1;
-    }
-    say_of(name, Remark::Unwritten);
-    -1
 }
 
-fn drop_lock(name: &[u8], file: i32) {
-    libc::close(file);
-    remove_beside(name, &LOCK);
+fn drop_lock<R: Files>(files: &R, name: &[u8], file: R::File) {
+    drop(file);
+    remove_beside(files, name, &LOCK);
 }
 
 // Prints, and gives up the lock: it is removed where there is nothing to write, and else holds the new file and takes its name.
-pub fn settle_lock(program: &[u8], name: &[u8], file: i32, printed: &[u8], written: &[u8]) {
-    if written.len() == 0 {
-        drop_lock(name, file);
-        print(program, printed, printed.len());
+pub fn settle_lock<R: Files + Print>(
+    rt: &R,
+    err: &impl Print,
+    program: &[u8],
+    name: &[u8],
+    file: R::File,
+    printed: &[u8],
+    written: &[u8],
+) {
+    if written.is_empty() {
+        drop_lock(rt, name, file);
+        print(rt, err, program, printed, printed.len());
         return;
     }
     if !fill_and_close(file, written) {
-        remove_beside(name, &LOCK);
-        say_of(name, Remark::Unwritten);
+        remove_beside(rt, name, &LOCK);
+        say_of(err, name, Remark::Unwritten);
         return;
     }
-    settle(program, name, &LOCK, printed);
+    settle(rt, err, program, name, &LOCK, printed);
+}
+
+#[cfg(test)]
+mod tests {
+    use super::*;
+    use std::test::Fail;
+
+    // Gives up to three bytes a read, and fails once it was read so often.
+    #[derive(Drop)]
+    struct Failing {
+        left: u8,
+    }
+
+    impl Read for Failing {
+        fn read(&mut self, buf: &mut [u8]) -> io::Result<usize> {
+            if self.left == 0 {
+                return Err(io::Error::from(ErrorKind::Other));
+            }
+            self.left -= 1;
+            let count = buf.len().min(3);
+            buf[..count].fill(7);
+            Ok(count)
+        }
+    }
+
+    #[test]
+    fn a_read_that_fails_in_mid_stream_is_told(rt: HostRuntime) -> Result<(), Fail> {
+        let mut area = [0u8; 10];
+        let input = read_open(&mut Failing { left: 2 }, &mut area);
+        assert!(rt; matches!(input, Input::Failed), "a failure is told");
+        let input = read_open(&mut Failing { left: 4 }, &mut area);
+        assert!(rt; matches!(input, Input::Read(10)), "the area is filled");
+        Ok(())
+    }
 }

@@ -3,7 +3,10 @@
 
 use answers::Answer;
 use layout::Worksheet;
-use libc::STDOUT_FILENO;
+
+const STDIN: i32 = 0;
+
+const STDOUT: i32 = 1;
 
 // Where the rows begin that follow another of the same kind.
 const WB_FROM: usize = layout::LINES_FROM + layout::LINES;
@@ -19,26 +22,24 @@ fn wide(x: u32) -> u64 {
 }
 
 fn print_number(x: u32) {
-    io::print_decimal(STDOUT_FILENO, wide(x));
+    io::print_decimal(STDOUT, wide(x));
 }
 
 fn end_line() {
-    io::write_all(STDOUT_FILENO, b"\n");
+    io::write_all(STDOUT, b"\n");
 }
 
 // A number, past a space where it is not the first of its row.
 fn print_cell(i: usize, x: u32) {
     if 0 < i {
-        io::write_all(STDOUT_FILENO, b" ");
+        io::write_all(STDOUT, b" ");
     }
     print_number(x);
 }
 
 fn print_row(row: &[u32]) {
-    let mut i = 0;
-    while i < row.len() {
-        print_cell(i, row[i]);
-        i += 1;
+    for (i, x) in row.iter().enumerate() {
+        print_cell(i, *x);
     }
     end_line();
 }
@@ -55,16 +56,16 @@ fn print_sheet(cells: [u32; layout::CELLS]) {
 }
 
 fn print_refusal(number: u32, place: u32) {
-    io::write_all(STDOUT_FILENO, b"R");
+    io::write_all(STDOUT, b"R");
     print_number(number);
-    io::write_all(STDOUT_FILENO, b" ");
+    io::write_all(STDOUT, b" ");
     print_number(place);
     end_line();
 }
 
 fn print_title(number: usize) {
-    io::write_all(STDOUT_FILENO, b"junction ");
-    io::print_decimal(STDOUT_FILENO, number as u64);
+    io::write_all(STDOUT, b"junction ");
+    io::print_decimal(STDOUT, number as u64);
     end_line();
 }
 
@@ -80,18 +81,16 @@ fn print_junction(block: &[u8]) {
 
 fn print_all(file: &[u8]) {
     let count = file.len() / study::BLOCK_BYTES;
-    let mut i = 0;
-    while i < count {
+    for i in 0..count {
         print_title(i + 1);
         let at = i * study::BLOCK_BYTES;
         let end = at + study::BLOCK_BYTES;
         print_junction(&file[at..end]);
-        i += 1;
     }
 }
 
 fn main() {
     let mut buffer = io::large_buffer();
-    let n = io::read_full(0, &mut buffer);
+    let n = io::read_full(STDIN, &mut buffer);
     print_all(&buffer[..n]);
 }
