@@ -1,5 +1,6 @@
 // Input and output: arguments and files in lent areas, and areas written out. What the system reads or writes, no promise
-// can say; what is read lies within its area. A file is written whole beside its place, and then takes its name. Where several
+// can say; what is read lies within its area, and of a reader whose bytes are known it is all that it has or that there is room
+// for. A file is written whole beside its place, and then takes its name. Where several
 // may change one file, the new one beside it has one name only, and is the lock. The system's names are text: a name that is not
 // UTF-8 is one of no file.
 #![tactic(auto)]
@@ -8,7 +9,7 @@ ghost use Rattle.std.specs.Prelude.{◌+◌, ◌≤◌, ◌<◌, length, IsTrue}
 ghost use Rattle.std.specs.Io.KnownBytes.{Appends};
 ghost use Rattle.program_outcome.specs.Outcome.{word_most};
 ghost use Rattle.io.specs.Counts.{IsPrefixLen};
-ghost use Rattle.program_io.specs.Input.{Within, beside_most};
+ghost use Rattle.program_io.specs.Input.{Within, Reads, ReadsOnce, beside_most};
 
 use program_outcome::{AREA_BYTES, Input, Remark, SAID_BYTES, WORD_BYTES};
 use program_target::Found;
@@ -83,7 +84,9 @@ pub fn take_words(env: &impl Env, words: &mut [u8]) -> usize
 
 // One read, into the front of the lent bytes.
 fn read_once<F: Read>(file: &mut F, area: &mut [u8]) -> Input
-    ensures { Within result (length area.new) }
+    requires { 0 < length area.old }
+    ensures within { Within result (length area.new) }
+    ensures bytes { ReadsOnce result (F.remaining file.old) (F.remaining file.new) area.new }
 {
     match file.read(area) {
         Ok(count) => Input::Read(count),
@@ -93,7 +96,8 @@ fn read_once<F: Read>(file: &mut F, area: &mut [u8]) -> Input
 
 // Reads until the file ends, the lent bytes are full or a read fails.
 pub fn read_open<F: Read>(file: &mut F, area: &mut [u8]) -> Input
-    ensures { Within result (length area.new) }
+    ensures within { Within result (length area.new) }
+    ensures bytes { Reads result (F.remaining file.old) (F.remaining file.new) area.new }
 {
     let mut done: usize = 0;
     while done < area.len() {
