@@ -9,7 +9,7 @@ use Rattle.answers.specs.declared.Answer.TheVariants.{Accepted}
 use Rattle.lists.specs.Lists.{table}
 use Rattle.layout.specs.declared.Worksheet.TheVariants.{Junction}
 use Rattle.layout.specs.Sheet.{sheet_count}
-use Rattle.layout.specs.Diamond.{storages_from, storage_count, diamond_count, page_own, page_cells}
+use Rattle.layout.specs.Diamond.{storages_from, storage_count, diamond_count, page_own}
 use Rattle.entries.proofs.Laws.{accepted_count}
 use Rattle.procedure.specs.Sheet.{sheet}
 use Rattle.sheet_cells.proofs.Cells.{sheet_length}

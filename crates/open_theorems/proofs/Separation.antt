@@ -1,15 +1,13 @@
 -- What an office may learn over any run: two runs in which it makes the same calls, from studies that are alike to it, tell it the
 -- same and end in studies that are alike to it, if the same was revealed to it. The other run is followed to the office's next call.
-use mathlib.Core.Path.{◌≡◌, refl, sym, ap, ◌∙◌}
-use mathlib.Core.Logic.{◌≢◌}
+use mathlib.Core.Path.{◌≡◌, refl, sym, ◌∙◌}
 use mathlib.Core.Bool.{Bool, true, false, cond, ◌&&◌}
 use mathlib.Core.List.{List, [], ◌∷◌}
 use Prim.Native.Nat.{ℕ}
 use native.Mathlib.Omega.{arith}
-use lib.Dec.{eqb}
-use borrow.Author.Tests.{eqb-true, eqb-false, ne_eqb}
+use borrow.Author.Tests.{eqb-true, eqb-false}
 use Rattle.open_rules.specs.Open.{Study, lowest_free}
-use Rattle.open_theorems.specs.Calls.{Call, Output, caller, is_add, is_of, next, output, own, revealed}
+use Rattle.open_theorems.specs.Calls.{Call, caller, is_add, is_of, next, output, own, revealed}
 use Rattle.open_theorems.specs.Working.{after, outputs}
 use Rattle.open_theorems.specs.Separation.{Alike}
 use Rattle.open_theorems.proofs.Respect.{alike_same, alike_then, alike_back, respects}

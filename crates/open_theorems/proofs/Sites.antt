@@ -22,7 +22,7 @@ use Rattle.open_rules.specs.Open.{Study, study, owns, block_at, lowest_free, add
 use Rattle.open_rules.specs.Open.{read_answer, read_sheet}
 use Rattle.open_rules.proofs.Blocks.{amended_block, unamended_block}
 use Rattle.open_rules.proofs.Laws.{Whole, Adds, adds, amends, whole_accepted, own_accepted, read_accepted}
-use Rattle.open_theorems.specs.Calls.{Call, Add, Amend, Read, next, output, change_in, changes_of}
+use Rattle.open_theorems.specs.Calls.{Call, Add, Amend, Read, next, change_in, changes_of}
 use Rattle.open_theorems.specs.Working.{after}
 use Rattle.open_theorems.proofs.Owners.{one_owner, own_taken, grown, grown-owners, grown-blocks, others_as_before}
 use Rattle.open_theorems.proofs.Owners.{block_here, block_elsewhere, place_is_own}

@@ -1,5 +1,5 @@
 -- Text after text, the calls of this crate make what the texts come to all together: `made_of_texts`.
-use Prim.Native.Nat.{ℕ, zero, suc, ◌+◌, ◌*◌, ◌≤◌}
+use Prim.Native.Nat.{ℕ, ◌+◌, ◌*◌, ◌≤◌}
 use mathlib.Core.Path.{◌≡◌, refl, sym, ap, ◌∙◌}
 use mathlib.Core.Bool.{Bool, true, false}
 use mathlib.Core.List.{List, [], ◌∷◌, ◌++◌}
@@ -20,9 +20,8 @@ use Rattle.study.specs.Study.{site_limit}
 use Rattle.text.specs.Text.{ascii}
 use Rattle.text_words.specs.declared.Found.{Found}
 use Rattle.text_words.specs.declared.Found.TheVariants.{Well as Fine, Wrong}
-use Rattle.text_values.specs.declared.Trouble.TheVariants.{TooLong}
 use Rattle.text_scan.specs.Scanning.{parsed}
-use Rattle.text_reader.specs.Reader.{found_as, short_reading, text_most, reading}
+use Rattle.text_reader.specs.Reader.{short_reading, text_most, reading}
 use Rattle.text_reader.specs.declared.Reading.{Reading}
 use Rattle.text_reader.specs.declared.Reading.TheVariants.{Read as Well, Misread, Refused}
 use Rattle.program_outcome.specs.declared.Input.{Input}

@@ -1,5 +1,5 @@
 -- What `icustudy make` gives: the study file of the junctions in texts, or what is said of the first text that is not well.
-use Rattle.std.specs.Prelude.{ℕ, ◌+◌, ◌*◌, cond, List, [], ◌∷◌, ◌++◌, length, take, leb}
+use Rattle.std.specs.Prelude.{ℕ, ◌+◌, ◌*◌, cond, List, [], length, take, leb}
 use Rattle.lists.specs.Lists.{over}
 use Rattle.layout.specs.declared.Worksheet.TheVariants.{Junction}
 use Rattle.layout.specs.Entries.{entry_count}

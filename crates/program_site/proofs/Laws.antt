@@ -11,7 +11,7 @@ use Rattle.answers.specs.declared.Refusal.{Refusal}
 use Rattle.answers.specs.declared.Answer.{Answer}
 use Rattle.answers.specs.declared.Answer.TheVariants.{Accepted, Refused as No}
 use Rattle.layout.specs.Entries.{entry_count}
-use Rattle.study.specs.Study.{judgement, sites_of, count_of, site_answer, site_entries_answer}
+use Rattle.study.specs.Study.{judgement, sites_of, count_of, site_entries_answer}
 use Rattle.study.proofs.Laws.{entries_given}
 use Rattle.text.specs.Text.{Placed}
 use Rattle.program_outcome.specs.Outcome.{Outcome, Left}

@@ -1,7 +1,7 @@
 -- Laws of the listing: the lines of sites, put one after the other, and how long the whole is.
 use Prim.Native.Nat.{ℕ, zero, suc, ◌+◌, ◌*◌, ◌<◌, ◌≤◌}
 use mathlib.Core.Path.{◌≡◌, refl, sym}
-use mathlib.Core.List.{List, ◌++◌}
+use mathlib.Core.List.{List}
 use lib.ListN.{length, take, length-append}
 use borrow.Author.Tests.{le-ltb}
 use native.Mathlib.Numerals.{add-one}
