@@ -1,16 +1,15 @@
 -- Every cell of an acceptable record fits 32 bits: none is above BLANK.
 use mathlib.Core.Path.{◌≡◌, refl}
-use mathlib.Core.Bool.{Bool, true, false}
+use mathlib.Core.Bool.{Bool}
 use mathlib.Core.List.{List, [], ◌∷◌, ◌++◌}
-use Prim.Native.Nat.{ℕ, zero, suc, ◌+◌, ◌*◌, ◌≤◌, ◌<◌}
+use Prim.Native.Nat.{ℕ, zero, suc, ◌≤◌}
 use native.Mathlib.Omega.{arith}
 use lib.Dec.{lit≤}
-use lib.ListN.{length, get_or}
+use lib.ListN.{get_or}
 use Rattle.answers.specs.declared.Answer.TheVariants.{Accepted}
 use Rattle.layout.specs.Sheet.{BLANK}
 use Rattle.layout.specs.Diamond.{plan_pick, best_cell}
 use Rattle.entries.specs.Layout.{cycle}
-use Rattle.procedure.specs.Pairs.{picked, by_pick, icu_of, letter_of}
 use Rattle.procedure.proofs.Fair.{fair_cycle}
 use Rattle.line_bounds.specs.Bounds.{most_adjusted, most_required, most_icu}
 use Rattle.line_bounds.proofs.Numbers.{chosen_most}
@@ -18,14 +17,14 @@ use Rattle.line_bounds.proofs.Lines.{Under, none, ◌&◌, under_fits}
 use Rattle.sheet.proofs.Fits.{icu_most, letter_of_most}
 use Rattle.diamond_rules.specs.declared.Side.{Side}
 use Rattle.diamond_rules.specs.Record.{west, travel, judged_record}
-use Rattle.diamond_rules.specs.Lines.{isolated, alternate, combined, overlap, leading_alternate, isolated_plan, if_allowed, lagging_allowed, lead_lag_allowed}
+use Rattle.diamond_rules.specs.Lines.{isolated, alternate, combined, overlap, if_allowed, lagging_allowed, lead_lag_allowed}
 use Rattle.diamond_rules.specs.Lines.{west_side, east_side, times_of, sides_of, best_of, plans_of, diamond}
 use Rattle.diamond_rules.proofs.Laws.{west_accepted}
 use Rattle.diamond_rules.proofs.Plans.{overlap_most}
 use Rattle.diamond_plans.specs.Working.{SmallSide}
 use Rattle.diamond_plans.proofs.Laws.{entering_most, ramp_most}
 use Rattle.diamond.proofs.Bounds.{west_small, east_small}
-use Rattle.diamond_theorems.specs.Best.{Picks, allowed, takes}
+use Rattle.diamond_theorems.specs.Best.{allowed, takes}
 use Rattle.diamond_theorems.proofs.Best.{leading_most, isolated_plan_most, best_picked}
 
 -- what each of the cells is at most: the sides' times, what is made of them, and the plans

@@ -1,0 +1,6 @@
+use Rattle.icu.specs.Told.{told}
+use mathlib.Core.Path.{◌∙◌, ap}
+use Rattle.icu.proofs.icu_open_amend.Goals as goal
+
+pub returns : goal.returns
+returns c = (c.tell.ensures ∙ ap told c.amend.ensures.value, c.amend.ensures.blocks_after)

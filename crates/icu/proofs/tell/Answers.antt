@@ -1,0 +1,4 @@
+use Rattle.icu.proofs.tell.Goals as goal
+
+pub returns : goal.returns
+returns c = cc
