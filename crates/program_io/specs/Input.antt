@@ -16,9 +16,9 @@ abbrev pub Reads : Input → Option (List ℕ) → Option (List ℕ) → List �
 Reads (Read count) old new area = Consumes old new (take count area) × (count < length area → IsAtEnd new)
 Reads Failed old new area = ⊤
 
--- one read: the same, but the reader is known to have no more only where it gave nothing
+-- one read: the same, but the reader is known to have no more only where there was room and it gave nothing
 abbrev pub ReadsOnce : Input → Option (List ℕ) → Option (List ℕ) → List ℕ → Type 0
-ReadsOnce (Read count) old new area = Consumes old new (take count area) × (count ≡ 0 → IsAtEnd new)
+ReadsOnce (Read count) old new area = Consumes old new (take count area) × (0 < length area → count ≡ 0 → IsAtEnd new)
 ReadsOnce Failed old new area = ⊤
 
 -- an argument and an ending, as `.part` and a digit

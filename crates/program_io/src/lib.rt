@@ -84,7 +84,6 @@ pub fn take_words(env: &impl Env, words: &mut [u8]) -> usize
 
 // One read, into the front of the lent bytes.
 fn read_once<F: Read>(file: &mut F, area: &mut [u8]) -> Input
-    requires { 0 < length area.old }
     ensures within { Within result (length area.new) }
     ensures bytes { ReadsOnce result (F.remaining file.old) (F.remaining file.new) area.new }
 {
