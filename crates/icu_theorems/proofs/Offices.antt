@@ -5,9 +5,8 @@ use mathlib.Core.Bool.{Bool, true, false, cond}
 use mathlib.Core.List.{List, [], ◌∷◌, map}
 use Prim.Native.Nat.{ℕ, ◌<◌}
 use native.Mathlib.Omega.{arith}
-use lib.Dec.{eqb}
 use lib.ListN.{length, get_or}
-use Rattle.answers.specs.Answers.{◌then◌, left_by, number_of, refusal_number}
+use Rattle.answers.specs.Answers.{left_by, refusal_number}
 use Rattle.answers.specs.declared.Refusal.TheVariants.{Owner, Full}
 use Rattle.answers.specs.declared.Answer.TheVariants.{Accepted, Refused}
 use Rattle.answers.proofs.Laws.{renewed}
@@ -32,7 +31,7 @@ use Rattle.icu.specs.declared.IcuAnswer.{IcuAnswer}
 use Rattle.icu.specs.Told.{told}
 use Rattle.icu.specs.Calls.{OpenAddAllows, OpenAmendAllows, OpenReadAllows}
 use Rattle.icu_theorems.specs.Outcomes.{Yes, No}
-use Rattle.icu_theorems.specs.Offices.{OpenAllows, Heard, OpenStep, OpenRun}
+use Rattle.icu_theorems.specs.Offices.{OpenAllows, Heard, OpenRun}
 use Rattle.icu_theorems.proofs.Told.{told_yes, told_no}
 
 -- refused

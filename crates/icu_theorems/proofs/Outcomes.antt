@@ -2,16 +2,11 @@
 use mathlib.Core.Path.{◌≡◌, refl, sym, ◌∙◌, ap}
 use mathlib.Core.Bool.{false, cond, or-false}
 use mathlib.Core.List.{List, [], ◌∷◌}
-use Prim.Native.Nat.{ℕ, ◌<◌, ◌≤◌, ◌*◌}
-use native.Mathlib.Omega.{arith}
+use Prim.Native.Nat.{ℕ, ◌<◌, ◌≤◌}
 use lib.ListN.{length, get_or, set, take}
-use borrow.Author.Tests.{eqb-true, eq-eqb, not-false}
-use lib.Dec.{eqb}
-use Rattle.answers.specs.Answers.{◌then◌, left_by}
-use Rattle.answers.specs.declared.Refusal.TheVariants.{Size}
-use Rattle.answers.specs.declared.Answer.{Answer}
-use Rattle.answers.specs.declared.Answer.TheVariants.{Accepted, Refused}
-use Rattle.answers.proofs.Laws.{both_accepted, renewed, not_refused, sized}
+use borrow.Author.Tests.{eq-eqb}
+use Rattle.answers.specs.declared.Answer.TheVariants.{Accepted}
+use Rattle.answers.proofs.Laws.{both_accepted, renewed, sized}
 use Rattle.layout.specs.declared.Worksheet.{Worksheet}
 use Rattle.layout.specs.Entries.{entry_count}
 use Rattle.layout.specs.Sheet.{sheet_count}
@@ -39,7 +34,6 @@ use Rattle.layout.specs.Diamond.{diamond_count}
 use Rattle.diamond_rules.specs.Record.{judged_record, cells_size, diamond_answer}
 use Rattle.diamond_rules.specs.Lines.{diamond, rated}
 use Rattle.icu.specs.declared.IcuAnswer.{IcuAnswer}
-use Rattle.icu.specs.Told.{told}
 use Rattle.icu.specs.Calls.{FillAllows, AmendAllows, StartAllows, SiteAllows, WriteAllows, ListAllows, DiamondAllows}
 use Rattle.icu_theorems.specs.Outcomes.{Yes, No, Run, SitesGiven, GivenAgain, Converts}
 use Rattle.icu_theorems.proofs.Told.{told_yes, told_no, told_new}

@@ -4,7 +4,7 @@
 -- left` says that a fill of a sheet of kind k, `icu_fill` for a junction's and `icu_point_fill` for a single point's, given the entries e
 -- and a sheet that holds d, may answer `one` and leave `left`. Calls.antt, beside this file, shows it of the calls themselves: each keeps
 -- its promise, and its promise is that definition, word for word. What holds of both kinds of sheet is said once, of k.
-use mathlib.Core.Path.{◌≡◌, refl, sym, ◌∙◌, ap}
+use mathlib.Core.Path.{◌≡◌, refl, sym, ◌∙◌}
 use mathlib.Core.Logic.{◌≢◌}
 use mathlib.Core.Bool.{true, false, cond}
 use mathlib.Core.List.{List, [], ◌∷◌, map, replicate}

@@ -1,6 +1,6 @@
 -- Laws of answers as the library tells them: number 0 is accepted, any other a refusal.
 use mathlib.Core.Path.{◌≡◌, refl, sym, ◌∙◌}
-use Prim.Native.Nat.{ℕ, ◌<◌}
+use Prim.Native.Nat.{◌<◌}
 use native.Mathlib.Omega.{arith}
 use Rattle.answers.specs.Answers.{left_by, refusal_number}
 use Rattle.answers.specs.declared.Refusal.{Refusal}
