@@ -1,4 +1,4 @@
-// The library's calls, for C and Rust to link. None of them asks anything of its caller.
+// The library's calls. None of them asks anything of its caller.
 #![tactic(auto)]
 
 ghost use Rattle.std.specs.Prelude.{◌≡◌};
