@@ -1,8 +1,7 @@
 // Input and output: arguments and files in lent areas, and areas written out. What the system reads or writes, no promise
 // can say; what is read lies within its area, and of a reader whose bytes are known it is all that it has or that there is room
-// for. A file is written whole beside its place, and then takes its name. Where several
-// may change one file, the new one beside it has one name only, and is the lock. The system's names are text: a name that is not
-// UTF-8 is one of no file.
+// for. A file is written whole beside its place, and then takes its name. Where several may change one file, the new one beside
+// it has one name only, and is the lock. The system's names are text: a name that is not UTF-8 is one of no file.
 #![tactic(auto)]
 
 ghost use Rattle.std.specs.Prelude.{◌+◌, ◌≤◌, ◌<◌, length, IsTrue};
