@@ -6,7 +6,7 @@ usage: believe.py [--list] [--check]
 A public call is a `pub fn` of the crate icu, or one of those that the programs make their texts and files with (PUBLIC below).
 What C links, the crate icu_c, has the calls of icu with the same contracts, word for word; that is checked.
 From the names in its `ensures` the definitions in specs/ are followed, through each file's `use` lines, as far as they go; the
-structs and enums that the code declares count where a definition names them. Blank lines and comments are not counted.
+structs, enums and named types that the code declares count where a definition names them. Blank lines and comments are not counted.
 
 The theorem files speak of some definitions more (runs of amendments, K1 to K10, what fair means, texts and pages one after the other): those
 are counted by themselves.
@@ -57,7 +57,7 @@ PUBLIC = {
 
 NAME = r"[^\s(){}\[\],;.⌜⌝⟦⟧λ∷≡×→≤<:=+*/%-][^\s(){}\[\],;.⌜⌝⟦⟧λ∷≡×→:=+*/%]*"
 HEAD = re.compile(r"^(?:abbrev |unfoldable )?(?:pub )?(?:record |data )?([^\s:]+)(?: .*)? : ")
-USE = re.compile(r"^\s*(?:ghost )?use (Rattle\.\S+?)\.\{([^}]*)\};?$")
+USE = re.compile(r"^\s*(?:ghost |pub )?use (Rattle\.\S+?)\.\{([^}]*)\};?$")
 
 
 class Definition:
@@ -125,8 +125,8 @@ def read_specs():
                     continue
                 if inner and line.startswith("  "):
                     line = line[2:]
-                if re.match(r"^(use|infix)", line):
-                    if line.startswith("use"):
+                if re.match(r"^((?:pub )?use|infix)", line):
+                    if not line.startswith("infix"):
                         notes = []
                     else:
                         notes.append(line)
@@ -149,16 +149,17 @@ def read_specs():
 
 
 def read_declared():
-    """The structs and enums of the code, as the definitions name them."""
+    """The structs, enums and named types of the code, as the definitions name them."""
     found = {}
     for crate in sorted(os.listdir(CRATES)):
         folder = os.path.join(CRATES, crate, "src")
         for file in sorted(os.listdir(folder)) if os.path.isdir(folder) else []:
             text = open(os.path.join(folder, file), encoding="utf-8").read()
-            for m in re.finditer(r"(?m)^(?:#\[[^\n]*\]\n)*(?:pub )?(?:struct|enum) (\w+)(?:\([^;]*\);|\s*\{.*?^\})", text, re.S | re.M):
-                d = Definition(crate, "declared", m.group(1))
+            for m in re.finditer(r"(?m)^(?:#\[[^\n]*\]\n)*(?:pub )?(?:(?:struct|enum) (\w+)(?:<[^>]*>)?(?:\([^;]*\);|;|\s*\{.*?^\})|type (\w+)[^=\n]* = [^;]*;)", text, re.S | re.M):
+                name = m.group(1) or m.group(2)
+                d = Definition(crate, "declared", name)
                 d.lines = [l for l in m.group(0).split("\n") if l.strip()]
-                found[(crate, "declared", m.group(1))] = d
+                found[(crate, "declared", name)] = d
     return found
 
 
@@ -177,10 +178,14 @@ def closure(start, table, declared, tables):
             continue
         d = table.get(key) or declared.get(key)
         if d is None:
+            # a name that a file hands on
+            there = tables.get(key[:2], {}).get(key[2])
+            if there is not None and there != key:
+                queue.append(there)
             continue
         seen[key] = d
         if d.file == "declared":
-            for name in names_in("\n".join(d.lines)):
+            for name in names_in(re.sub(r"[<>&]", " ", "\n".join(d.lines))):
                 for other in declared:
                     if other[2] == name and (other[0] == d.crate or len([k for k in declared if k[2] == name]) == 1):
                         queue.append(other)

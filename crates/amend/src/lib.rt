@@ -30,7 +30,7 @@ fn renew_from(
     amend_sets::renew_changed(kind, sheet, fresh, changes);
 }
 
-// The same, with as many cells as a sheet of the kind has.
+// The same, with as many cells as a sheet of the kind has: with that number as a const parameter these two arms would stand in the caller.
 fn renew(kind: Worksheet, sheet: &mut [u32], entries: &[u32], changes: &[u32])
     requires { (length sheet.old ≡ sheet_count kind) × (judged_for kind entries.now ≡ Accepted) × (entries_answer (changes_of changes.now) ≡ Accepted) }
     ensures { sheet.new

@@ -1,20 +1,23 @@
 -- The cells that a copy has still to write, one fewer with each turn.
-use mathlib.Core.Path.{◌≡◌, refl, sym, ◌∙◌, fun_ext}
-use mathlib.Core.Bool.{Bool, true, false, ◌&&◌, ◌||◌, and-false, or-false, or-true}
-use mathlib.Core.List.{List}
+use mathlib.Core.Path.{◌≡◌, refl, sym, ◌∙◌, ap, fun_ext}
+use mathlib.Core.Bool.{Bool, true, false, cond, ◌&&◌, ◌||◌, and-false, or-false, or-true}
+use mathlib.Core.List.{List, ◌++◌}
 use Prim.Native.Nat.{ℕ, suc, ◌+◌, ◌-◌, ◌*◌, ◌≤◌, ◌<◌, min}
 use native.Mathlib.Numerals.{add-one}
 use native.Mathlib.Decide.{dec_lt, ℕ_discrete}
 use native.Mathlib.Omega.{arith}
 use lib.Dec.{leb, ltb, eqb}
-use lib.ListN.{length, get_or, drop, drop_of_length-le}
-use lib.Seq.{drop-cons}
+use lib.ListN.{length, get_or, take, drop, drop_of_length-le, length-append, length-drop, get_or-append}
+use lib.Seq.{drop-cons, length-take-le, get_or-take, get_or-drop, get_or-append-add, ext_get_or}
 use borrow.Author.Tests.{leb-true, lt-ltb, le-ltb, le-leb, lt-leb, eq-eqb, ne_eqb}
+use Rattle.lists.specs.Lists.{over}
+use Rattle.lists.proofs.Laws.{length_over}
 use Rattle.lists.proofs.Tests.{both_true}
 use Rattle.sheet_cells.proofs.Cells.{within_blocks}
-use Rattle.amend_reach.specs.Reach.{among, faces, first_facing, last_facing}
+use Rattle.amend_reach.specs.Reach.{among, faces, first_facing, last_facing, merged_from}
 use Rattle.amend_reach.specs.Working.{run, run_if, lines_named, are_lines}
 use Rattle.amend_reach.proofs.Blocks.{block_ends}
+use Rattle.amend_reach.proofs.Merging.{length_merged, merged_cell}
 
 module _ (from to j : ℕ) where
   pub in_run : from ≤ j → j < to → run from to j ≡ true
@@ -45,6 +48,57 @@ run_over from to h j = go (dec_lt j from)
     go : Dec (j < from) → run from to j ≡ false
     go (yes p) = before_run from to j p
     go (no p) = after_run from to j (omega arith)
+
+-- a run of a list put over the same places of another is the merge by the run
+module _ (from to : ℕ) (fresh old : List ℕ) (same : length fresh ≡ length old) (some : from < to) (room : to ≤ length old) where
+  part : List ℕ
+  part = take (to - from) (drop from fresh)
+
+  long : length part ≡ to - from
+  unfolding part
+  long = length-take-le (to - from) (drop from fresh) (omega (arith, length-drop from fresh))
+
+  front : length (take from old) ≡ from
+  front = length-take-le from old (omega arith)
+
+  both : length (take from old ++ part) ≡ to
+  both = omega (arith, length-append (take from old) part, front, long)
+
+  put_cell : (j : ℕ) → Dec (j < from) → Dec (j < to) → get_or (over old from part) j 0 ≡ cond (run from to j) (get_or fresh j 0) (get_or old j 0)
+  unfolding over part
+  put_cell j (yes p) _ =
+      rw (
+        before_run from to j p,
+        get_or-append (take from old ++ part) (drop (from + length part) old) 0 j (omega (arith, both)),
+        get_or-append (take from old) part 0 j (omega (arith, front)),
+      )
+      (get_or-take from old j 0 p)
+  put_cell j (no p) (yes q) =
+      let at : j ≡ length (take from old) + (j - from) = omega (arith, front) in
+      let back : from + (j - from) ≡ j = omega arith in
+      rw (in_run from to j (omega arith) q, get_or-append (take from old ++ part) (drop (from + length part) old) 0 j (omega (arith, both)))
+      (ap (λ i. get_or (take from old ++ part) i 0) at ∙ get_or-append-add (take from old) part (j - from) 0
+      ∙ get_or-take (to - from) (drop from fresh) (j - from) 0 (omega arith) ∙ get_or-drop from fresh (j - from) 0
+      ∙ ap (λ i. get_or fresh i 0) back)
+  put_cell j (no p) (no q) =
+      let at : j ≡ length (take from old ++ part) + (j - to) = omega (arith, both) in
+      let back : from + length part + (j - to) ≡ j = omega (arith, long) in
+      rw (after_run from to j (omega arith))
+      (ap (λ i. get_or (take from old ++ part ++ drop (from + length part) old) i 0) at
+      ∙ get_or-append-add (take from old ++ part) (drop (from + length part) old) (j - to) 0
+      ∙ get_or-drop (from + length part) old (j - to) 0 ∙ ap (λ i. get_or old i 0) back)
+
+  pub run_room : from + length (take (to - from) (drop from fresh)) ≤ length old
+  unfolding part
+  run_room = omega (arith, long)
+
+  pub run_put : over old from (take (to - from) (drop from fresh)) ≡ merged_from (run from to) 0 fresh old
+  unfolding part
+  run_put =
+      let whole : length (over old from part) ≡ length old = length_over old from part (omega (arith, long)) in
+      ext_get_or 0 (over old from part) (merged_from (run from to) 0 fresh old)
+      (whole ∙ sym (length_merged (run from to) 0 fresh old same))
+      (λ j h. put_cell j (dec_lt j from) (dec_lt j to) ∙ sym (merged_cell (run from to) fresh old same j (omega (arith, whole))))
 
 -- of blocks of one width, the run that is block a has of block c all or nothing
 pub block_run : (from w a c t j : ℕ) → j ≡ from + w * c + t → t < w → run (from + w * a) (from + w * a + w) j ≡ eqb c a

@@ -1,6 +1,6 @@
 -- "What an amendment reaches", over the kind of the amended entry and the cell. The list names lines and pairs; which cells these are
 -- goes by the sheet's kind: on a single point's, Request Seven, "cut to the cells this sheet has (the pair's total for its pair cells)".
-use Rattle.std.specs.Prelude.{Bool, true, false, cond, ◌&&◌, ◌||◌, List, [], ◌∷◌, ℕ, suc, ◌-◌, ◌/◌, ◌%◌, leb, ltb, eqb}
+use Rattle.std.specs.Prelude.{Bool, true, false, cond, ◌&&◌, ◌||◌, Option, None, Some, List, [], ◌∷◌, ℕ, suc, ◌-◌, ◌/◌, ◌%◌, leb, ltb, eqb}
 use Rattle.layout.specs.Entries.{group_count, movement_entries, approaches_from, approach_entries, entry_count}
 use Rattle.layout.specs.declared.Worksheet.{Worksheet}
 use Rattle.layout.specs.Sheet.{line_count, lines_from, pair_cells, pairs_from, last_from}
@@ -10,7 +10,7 @@ use Rattle.kinds.specs.declared.Kind.TheVariants.{SharedLane, Pedestrians, PushB
 use Rattle.kinds.specs.Kinds.{kind_at}
 use Rattle.sheet_cells.specs.Cells.{opposite}
 use Rattle.amend_reach.specs.declared.Named.{Named}
-use Rattle.amend_reach.specs.declared.Named.TheVariants.{All, Times, Walkers, Button, Crossing, NoLine}
+use Rattle.amend_reach.specs.declared.Named.TheVariants.{All, Times, Walkers, Button, Crossing}
 use Rattle.amend_reach.specs.declared.Reach.{Reach}
 
 abbrev pub among : ℕ → List ℕ → Bool
@@ -18,13 +18,13 @@ among n [] = false
 among n (x ∷ xs) = eqb n x || among n xs
 
 -- the own lines that the list names together
-abbrev pub names : Named → ℕ → Bool
-names All n = true
-names Times n = among n (16 ∷ 17 ∷ 18 ∷ 26 ∷ 28 ∷ [])
-names Walkers n = among n (10 ∷ 11 ∷ 12 ∷ 14 ∷ 15 ∷ 17 ∷ 18 ∷ 23 ∷ 24 ∷ 25 ∷ 26 ∷ 27 ∷ 28 ∷ [])
-names Button n = among n (12 ∷ 17 ∷ 26 ∷ 28 ∷ [])
-names Crossing n = among n (17 ∷ 26 ∷ 28 ∷ [])
-names NoLine n = false
+abbrev pub names : Option Named → ℕ → Bool
+names None n = false
+names (Some All) n = true
+names (Some Times) n = among n (16 ∷ 17 ∷ 18 ∷ 26 ∷ 28 ∷ [])
+names (Some Walkers) n = among n (10 ∷ 11 ∷ 12 ∷ 14 ∷ 15 ∷ 17 ∷ 18 ∷ 23 ∷ 24 ∷ 25 ∷ 26 ∷ 27 ∷ 28 ∷ [])
+names (Some Button) n = among n (12 ∷ 17 ∷ 26 ∷ 28 ∷ [])
+names (Some Crossing) n = among n (17 ∷ 26 ∷ 28 ∷ [])
 
 -- "the opposite approach's 21–26", where they are reached
 abbrev pub first_facing : ℕ
@@ -38,19 +38,19 @@ faces looks n = looks && (leb first_facing n && leb n last_facing)
 
 -- "own 1–28 and the opposite approach's 21–26", and "all but free right also the approach's pair cells"
 abbrev pub both_ways : Reach
-both_ways = record { own = All; facing = true; pair = true; everywhere = false }
+both_ways = record { own = Some All; facing = true; pair = true; everywhere = false }
 
 -- own lines, and the pair cells
 abbrev pub own : Named → Reach
-own lines = record { own = lines; facing = false; pair = true; everywhere = false }
+own lines = record { own = Some lines; facing = false; pair = true; everywhere = false }
 
 -- "free right: none more"
 abbrev pub none_more : Reach
-none_more = record { own = NoLine; facing = false; pair = false; everywhere = false }
+none_more = record { own = None; facing = false; pair = false; everywhere = false }
 
 -- "CL: every line and pair cell": those of the street that crosses, too
 abbrev pub every_line : Reach
-every_line = record { own = All; facing = true; pair = true; everywhere = true }
+every_line = record { own = Some All; facing = true; pair = true; everywhere = true }
 
 -- the list: a row for each kind; a measured lane factor "reaches what lanes reach"; no entry of a sheet is of the last two
 abbrev pub reach_of : Kind → Reach

@@ -3,16 +3,16 @@
 
 ghost use Rattle.std.specs.Prelude.{◌≡◌, true, ◌+◌, ◌/◌, ◌≤◌, ◌<◌, min, length};
 ghost use Rattle.layout.specs.Entries.{approach_count, cycle_entry, entry_count};
-ghost use Rattle.layout.specs.Sheet.{line_count, lines_of, pair_of, sheet_count};
+ghost use Rattle.layout.specs.Sheet.{line_count, sheet_count};
 ghost use Rattle.sheet_cells.specs.Cells.{opposite};
-ghost use Rattle.amend_reach.specs.Reach.{among, names, last_facing, reach_of, approach_at, merged_from, merged};
+ghost use Rattle.amend_reach.specs.Reach.{among, names, last_facing, own as own_row, every_line, reach_of, approach_at, merged_from, merged};
 ghost use Rattle.amend_reach.specs.Working.{run, run_if, lines_named, are_lines, SameRow, street_cells};
 
 use kinds::Kind;
 use layout::Worksheet;
 
 // Lines of an approach that the rules name together.
-#[derive(Clone, Copy)]
+#[derive(Clone, Copy, PartialEq, Eq, Debug)]
 pub enum Named {
     All,
     // of lost time and minimum green
@@ -21,8 +21,16 @@ pub enum Named {
     Walkers,
     Button,
     Crossing,
-    NoLine,
 }
+
+// Those of each name that does not name all.
+const TIMES: &[usize] = &[16, 17, 18, 26, 28];
+
+const WALKERS: &[usize] = &[10, 11, 12, 14, 15, 17, 18, 23, 24, 25, 26, 27, 28];
+
+const BUTTON: &[usize] = &[12, 17, 26, 28];
+
+const CROSSING: &[usize] = &[17, 26, 28];
 
 // The first and the last of the lines that look at the approach opposite.
 const FACING_FROM: usize = 21;
@@ -32,7 +40,7 @@ const FACING_TO: usize = 26;
 // What an amendment of an entry reaches, besides the entry itself and the last cells.
 #[derive(Clone, Copy)]
 pub struct Reach {
-    pub own: Named,
+    pub own: Option<Named>,
     // the lines of the approach opposite that look at it
     pub facing: bool,
     // the cells of the approach's pair
@@ -42,54 +50,40 @@ pub struct Reach {
 }
 
 impl Reach {
-    const BOTH_WAYS: Reach = Reach {
-        own: Named::All,
-        facing: true,
-        pair: true,
-        everywhere: false,
-    };
-
-    const TIMES: Reach = Reach {
-        own: Named::Times,
-        facing: false,
-        pair: true,
-        everywhere: false,
-    };
-
-    const WALKERS: Reach = Reach {
-        own: Named::Walkers,
-        facing: false,
-        pair: true,
-        everywhere: false,
-    };
-
-    const BUTTON: Reach = Reach {
-        own: Named::Button,
-        facing: false,
-        pair: true,
-        everywhere: false,
-    };
-
-    const CROSSING: Reach = Reach {
-        own: Named::Crossing,
-        facing: false,
-        pair: true,
-        everywhere: false,
-    };
-
     const NONE_MORE: Reach = Reach {
-        own: Named::NoLine,
+        own: None,
         facing: false,
         pair: false,
         everywhere: false,
     };
 
-    const EVERY_LINE: Reach = Reach {
-        own: Named::All,
+    const BOTH_WAYS: Reach = Reach {
+        own: Some(Named::All),
         facing: true,
         pair: true,
-        everywhere: true,
+        everywhere: false,
     };
+
+    // Own lines, and the pair cells.
+    fn own(lines: Named) -> Reach
+        ensures { SameRow result (own_row lines) }
+    {
+        Reach {
+            own: Some(lines),
+            pair: true,
+            ..Reach::NONE_MORE
+        }
+    }
+
+    // Every line and pair cell.
+    fn everywhere() -> Reach
+        ensures { SameRow result every_line }
+    {
+        Reach {
+            everywhere: true,
+            ..Reach::BOTH_WAYS
+        }
+    }
 
     // The row of a kind.
     fn of(kind: Kind) -> Reach
@@ -99,15 +93,15 @@ impl Reach {
             Kind::Lanes => Reach::BOTH_WAYS,
             Kind::Volume => Reach::BOTH_WAYS,
             Kind::IdealFlow => Reach::BOTH_WAYS,
-            Kind::LostTime => Reach::TIMES,
-            Kind::MinimumGreen => Reach::TIMES,
+            Kind::LostTime => Reach::own(Named::Times),
+            Kind::MinimumGreen => Reach::own(Named::Times),
             Kind::LaneFactor => Reach::BOTH_WAYS,
             Kind::SharedLane => Reach::BOTH_WAYS,
-            Kind::Pedestrians => Reach::WALKERS,
-            Kind::PushButton => Reach::BUTTON,
-            Kind::PedestrianTime => Reach::CROSSING,
+            Kind::Pedestrians => Reach::own(Named::Walkers),
+            Kind::PushButton => Reach::own(Named::Button),
+            Kind::PedestrianTime => Reach::own(Named::Crossing),
             Kind::FreeRight => Reach::NONE_MORE, // it goes into its right total alone
-            Kind::Cycle => Reach::EVERY_LINE,
+            Kind::Cycle => Reach::everywhere(),
             Kind::Storage => Reach::NONE_MORE, // no sheet has one
             Kind::TravelTime => Reach::NONE_MORE,
         }
@@ -130,9 +124,10 @@ fn opposite_of(approach: usize) -> usize
     ensures { (result ≡ opposite approach) × (result < approach_count) }
 {
     if approach % 2 == 0 {
-        return approach + 1;
+        approach + 1
+    } else {
+        approach - 1
     }
-    approach - 1
 }
 
 // Writes the fresh cells from one on and before another.
@@ -140,10 +135,8 @@ fn copy_run(sheet: &mut [u32], fresh: &[u32], from: usize, to: usize)
     requires { (length fresh.now ≡ length sheet.old) × (to ≤ length sheet.old) }
     ensures { sheet.new ≡ merged_from (run from to) 0 fresh.now sheet.old }
 {
-    let mut cell = from;
-    while cell < to {
-        sheet[cell] = fresh[cell];
-        cell += 1;
+    if from < to {
+        lists::put(sheet, from, &fresh[from..to]);
     }
 }
 
@@ -164,92 +157,36 @@ fn copy_lines(kind: Worksheet, sheet: &mut [u32], fresh: &[u32], first: usize, l
         ≡ merged_from (lines_named (line_count kind) first (λ n. among n lines.now)) 0 fresh.now sheet.old }
 {
     let last = kind.lines();
-    let mut i = 0;
-    while i < lines.len() {
-        let line = lines[i];
+    for &line in lines {
         if line <= last {
             let cell = first + line - 1;
             sheet[cell] = fresh[cell];
         }
-        i += 1;
     }
-}
-
-// Each list has a function of its own, so that it is made only where it is read.
-fn copy_times(kind: Worksheet, sheet: &mut [u32], fresh: &[u32], first: usize)
-    requires { (length fresh.now ≡ length sheet.old) × (first + line_count kind ≤ length sheet.old) }
-    ensures { sheet.new ≡ merged_from (lines_named (line_count kind) first (names Named.Times)) 0 fresh.now sheet.old }
-{
-    copy_lines(kind, sheet, fresh, first, &[16, 17, 18, 26, 28]);
-}
-
-fn copy_walkers(kind: Worksheet, sheet: &mut [u32], fresh: &[u32], first: usize)
-    requires { (length fresh.now ≡ length sheet.old) × (first + line_count kind ≤ length sheet.old) }
-    ensures { sheet.new ≡ merged_from (lines_named (line_count kind) first (names Named.Walkers)) 0 fresh.now sheet.old }
-{
-    copy_lines(
-        kind,
-        sheet,
-        fresh,
-        first,
-        &[10, 11, 12, 14, 15, 17, 18, 23, 24, 25, 26, 27, 28],
-    );
-}
-
-fn copy_button(kind: Worksheet, sheet: &mut [u32], fresh: &[u32], first: usize)
-    requires { (length fresh.now ≡ length sheet.old) × (first + line_count kind ≤ length sheet.old) }
-    ensures { sheet.new ≡ merged_from (lines_named (line_count kind) first (names Named.Button)) 0 fresh.now sheet.old }
-{
-    copy_lines(kind, sheet, fresh, first, &[12, 17, 26, 28]);
-}
-
-fn copy_crossing(kind: Worksheet, sheet: &mut [u32], fresh: &[u32], first: usize)
-    requires { (length fresh.now ≡ length sheet.old) × (first + line_count kind ≤ length sheet.old) }
-    ensures { sheet.new ≡ merged_from (lines_named (line_count kind) first (names Named.Crossing)) 0 fresh.now sheet.old }
-{
-    copy_lines(kind, sheet, fresh, first, &[17, 26, 28]);
 }
 
 // Writes the lines that are named together, of those of the kind whose first stands at a cell.
-fn copy_named(kind: Worksheet, sheet: &mut [u32], fresh: &[u32], named: Named, first: usize)
+fn copy_named(kind: Worksheet, sheet: &mut [u32], fresh: &[u32], named: Option<Named>, first: usize)
     requires { (length fresh.now ≡ length sheet.old) × (first + line_count kind ≤ length sheet.old) }
     ensures { sheet.new ≡ merged_from (lines_named (line_count kind) first (names named)) 0 fresh.now sheet.old }
 {
+    let Some(named) = named else {
+        return;
+    };
     match named {
         Named::All => copy_run(sheet, fresh, first, first + kind.lines()),
-        Named::Times => copy_times(kind, sheet, fresh, first),
-        Named::Walkers => copy_walkers(kind, sheet, fresh, first),
-        Named::Button => copy_button(kind, sheet, fresh, first),
-        Named::Crossing => copy_crossing(kind, sheet, fresh, first),
-        Named::NoLine => {}
+        Named::Times => copy_lines(kind, sheet, fresh, first, TIMES),
+        Named::Walkers => copy_lines(kind, sheet, fresh, first, WALKERS),
+        Named::Button => copy_lines(kind, sheet, fresh, first, BUTTON),
+        Named::Crossing => copy_lines(kind, sheet, fresh, first, CROSSING),
     }
-}
-
-// The cell of an approach's first line.
-fn lines_of(kind: Worksheet, approach: usize) -> usize
-    requires { approach < approach_count }
-    ensures { result ≡ lines_of kind approach }
-{
-    layout::LINES_FROM + kind.lines() * approach
-}
-
-// The first cell of an approach's pair.
-fn pair_of(kind: Worksheet, approach: usize) -> usize
-    requires { approach < approach_count }
-    ensures { result ≡ pair_of kind (approach / 2) }
-{
-    kind.pairs_from() + kind.pair_cells() * (approach / 2)
 }
 
 // Where the facing lines end: with the kind's last line at the latest, so that a single point has none of them.
 fn facing_to(kind: Worksheet) -> usize
     ensures { result ≡ min last_facing (line_count kind) }
 {
-    let lines = kind.lines();
-    if FACING_TO <= lines {
-        return FACING_TO;
-    }
-    lines
+    FACING_TO.min(kind.lines())
 }
 
 // Writes the fresh cells that an entry of an approach reaches, but for the entry itself.
@@ -258,8 +195,8 @@ fn renew_street(kind: Worksheet, sheet: &mut [u32], fresh: &[u32], reach: Reach,
     ensures { sheet.new ≡ merged_from (street_cells kind reach approach) 0 fresh.now sheet.old }
 {
     let own = reach.own;
-    copy_named(kind, sheet, fresh, own, lines_of(kind, approach));
-    let across = lines_of(kind, opposite_of(approach));
+    copy_named(kind, sheet, fresh, own, kind.lines_of(approach));
+    let across = kind.lines_of(opposite_of(approach));
     copy_if(
         reach.facing,
         sheet,
@@ -267,7 +204,7 @@ fn renew_street(kind: Worksheet, sheet: &mut [u32], fresh: &[u32], reach: Reach,
         across + FACING_FROM - 1,
         across + facing_to(kind),
     );
-    let pair = pair_of(kind, approach);
+    let pair = kind.pair_of(approach);
     copy_if(reach.pair, sheet, fresh, pair, pair + kind.pair_cells());
     let last = kind.last_from();
     copy_run(sheet, fresh, last, kind.cells());

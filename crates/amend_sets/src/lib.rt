@@ -28,13 +28,11 @@ pub fn check_entry(entry: u32) -> Answer
 fn check_entries(changes: &[u32]) -> Answer
     ensures { result ≡ entries_answer (changes_of changes.now) }
 {
-    let mut n = 0;
-    while n < changes.len() / 2 {
+    for n in 0..changes.len() / 2 {
         let known = check_entry(changes[2 * n]);
         let Answer::Accepted = known else {
             return known;
         };
-        n += 1;
     }
     Answer::Accepted
 }
@@ -44,11 +42,9 @@ fn change(entries: &mut [u32], changes: &[u32])
     requires { (length entries.old ≡ entry_count) × (entries_answer (changes_of changes.now) ≡ Accepted) }
     ensures { entries.new ≡ with_changes (changes_of changes.now) entries.old }
 {
-    let mut n = 0;
-    while n < changes.len() / 2 {
+    for n in 0..changes.len() / 2 {
         let entry = changes[2 * n] as usize;
         entries[entry] = changes[2 * n + 1];
-        n += 1;
     }
 }
 
@@ -88,9 +84,7 @@ pub fn renew_changed(kind: Worksheet, sheet: &mut [u32], fresh: &[u32], changes:
     requires { (length sheet.old ≡ sheet_count kind) × (length fresh.now ≡ sheet_count kind) × (entries_answer (changes_of changes.now) ≡ Accepted) }
     ensures { sheet.new ≡ merged_from (some_reaches kind (changes_of changes.now)) 0 fresh.now sheet.old }
 {
-    let mut n = 0;
-    while n < changes.len() / 2 {
+    for n in 0..changes.len() / 2 {
         amend_reach::renew(kind, sheet, fresh, changes[2 * n] as usize);
-        n += 1;
     }
 }

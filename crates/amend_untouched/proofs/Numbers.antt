@@ -33,12 +33,12 @@ number_count = own_from + approach_entries
 abbrev movement_from : (ℕ → ℕ) → ℕ → Movement
 movement_from g m =
     record {
-      lanes = record { 0 = g (movement_place m lanes_no); 1 = tt };
-      volume = record { 0 = record { 0 = g (movement_place m volume_no) }; 1 = tt };
-      ideal = record { 0 = record { 0 = g (movement_place m ideal_no) }; 1 = tt };
-      lost = record { 0 = record { 0 = g (movement_place m lost_no) }; 1 = tt };
-      green = record { 0 = record { 0 = g (movement_place m green_no) }; 1 = tt };
-      measured = record { 0 = g (movement_place m factor_no); 1 = tt };
+      lanes = record { 0 = g (movement_place m lanes_no); 1 = record {} };
+      volume = record { 0 = record { 0 = g (movement_place m volume_no) }; 1 = record {} };
+      ideal = record { 0 = record { 0 = g (movement_place m ideal_no) }; 1 = record {} };
+      lost = record { 0 = record { 0 = g (movement_place m lost_no) }; 1 = record {} };
+      green = record { 0 = record { 0 = g (movement_place m green_no) }; 1 = record {} };
+      measured = record { 0 = g (movement_place m factor_no); 1 = record {} };
     }
 
 abbrev pub approach_from : (ℕ → ℕ) → Approach
@@ -47,11 +47,11 @@ approach_from g =
       left = movement_from g (left 0);
       through = movement_from g (through 0);
       right = movement_from g (right 0);
-      shared = record { 0 = g (own_from + shared_no); 1 = tt };
-      walkers = record { 0 = g (own_from + walkers_no); 1 = tt };
-      button = record { 0 = g (own_from + button_no); 1 = tt };
-      crossing = record { 0 = record { 0 = g (own_from + crossing_no) }; 1 = tt };
-      free = record { 0 = g (own_from + free_no); 1 = tt };
+      shared = record { 0 = g (own_from + shared_no); 1 = record {} };
+      walkers = record { 0 = g (own_from + walkers_no); 1 = record {} };
+      button = record { 0 = g (own_from + button_no); 1 = record {} };
+      crossing = record { 0 = record { 0 = g (own_from + crossing_no) }; 1 = record {} };
+      free = record { 0 = g (own_from + free_no); 1 = record {} };
     }
 
 -- number f changed to x

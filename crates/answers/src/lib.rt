@@ -4,23 +4,23 @@
 ghost use Rattle.std.specs.Prelude.{◌≡◌};
 ghost use Rattle.answers.specs.Answers.{refusal_number, refusal_place, number_of, place_of};
 
-// Why a call says no, in the order in which the reasons are asked.
-#[derive(Clone, Copy)]
+// Why a call says no, in the order in which the reasons are asked, and by number.
+#[derive(Clone, Copy, PartialEq, Eq, Debug)]
 pub enum Refusal {
-    Size,
-    Entry,
-    Range,
-    Shared,
-    NoLane,
-    File,
-    Store,
-    Travel,
-    Owner,
-    Full,
+    Size = 1,
+    Entry = 2,
+    Range = 3,
+    Shared = 4,
+    NoLane = 5,
+    File = 6,
+    Store = 7,
+    Travel = 8,
+    Owner = 9,
+    Full = 10,
 }
 
 // What a refusal's place counts.
-#[derive(Clone, Copy)]
+#[derive(Clone, Copy, PartialEq, Eq, Debug)]
 pub enum Place {
     OfNothing,
     OfEntries,
@@ -31,7 +31,8 @@ pub enum Place {
     OfStudy,
 }
 
-#[derive(Clone, Copy)]
+// An enum and no Result by a rule of the project: each check's answer is taken apart by `let .. else`, and a refusal handed on.
+#[derive(Clone, Copy, PartialEq, Eq, Debug)]
 pub enum Answer {
     Accepted,
     // The refusal, and its place.
@@ -42,35 +43,21 @@ impl Refusal {
     pub fn number(self) -> u32
         ensures { result ≡ refusal_number self }
     {
-        match self {
-            Refusal::Size => 1,
-            Refusal::Entry => 2,
-            Refusal::Range => 3,
-            Refusal::Shared => 4,
-            Refusal::NoLane => 5,
-            Refusal::File => 6,
-            Refusal::Store => 7,
-            Refusal::Travel => 8,
-            Refusal::Owner => 9,
-            Refusal::Full => 10,
-        }
+        self as u32
     }
 
-    // What the refusal's place counts.
+    // What the refusal's place counts, row by row as the rules' table. (No From: a refusal isn't turned into it.)
     pub fn counts(self) -> Place
         ensures { result ≡ refusal_place self }
     {
         match self {
-            Refusal::Size => Place::OfNothing,
-            Refusal::Entry => Place::OfNothing,
+            Refusal::Size | Refusal::Entry | Refusal::Full => Place::OfNothing,
             Refusal::Range => Place::OfEntries,
             Refusal::Shared => Place::OfApproaches,
             Refusal::NoLane => Place::OfMovements,
             Refusal::File => Place::OfBytes,
-            Refusal::Store => Place::OfRecord,
-            Refusal::Travel => Place::OfRecord,
+            Refusal::Store | Refusal::Travel => Place::OfRecord,
             Refusal::Owner => Place::OfStudy,
-            Refusal::Full => Place::OfNothing,
         }
     }
 }

@@ -30,12 +30,12 @@ of_movement e m j = get_or e (movement_before * m + j) 0
 unfoldable pub movement_then : List ℕ → ℕ → Movement
 movement_then e m =
     record {
-      lanes = record { 0 = of_movement e m lanes_no; 1 = tt };
-      volume = record { 0 = record { 0 = of_movement e m volume_no }; 1 = tt };
-      ideal = record { 0 = record { 0 = of_movement e m ideal_no }; 1 = tt };
-      lost = record { 0 = record { 0 = of_movement e m lost_no }; 1 = tt };
-      green = record { 0 = record { 0 = of_movement e m green_no }; 1 = tt };
-      measured = record { 0 = 0; 1 = tt };
+      lanes = record { 0 = of_movement e m lanes_no; 1 = record {} };
+      volume = record { 0 = record { 0 = of_movement e m volume_no }; 1 = record {} };
+      ideal = record { 0 = record { 0 = of_movement e m ideal_no }; 1 = record {} };
+      lost = record { 0 = record { 0 = of_movement e m lost_no }; 1 = record {} };
+      green = record { 0 = record { 0 = of_movement e m green_no }; 1 = record {} };
+      measured = record { 0 = 0; 1 = record {} };
     }
 
 -- "Approach a has 60+5a onward"
@@ -48,11 +48,11 @@ approach_then e a =
       left = movement_then e (left a);
       through = movement_then e (through a);
       right = movement_then e (right a);
-      shared = record { 0 = of_approach e a shared_no; 1 = tt };
-      walkers = record { 0 = of_approach e a walkers_no; 1 = tt };
-      button = record { 0 = of_approach e a button_no; 1 = tt };
-      crossing = record { 0 = record { 0 = of_approach e a crossing_no }; 1 = tt };
-      free = record { 0 = of_approach e a free_no; 1 = tt };
+      shared = record { 0 = of_approach e a shared_no; 1 = record {} };
+      walkers = record { 0 = of_approach e a walkers_no; 1 = record {} };
+      button = record { 0 = of_approach e a button_no; 1 = record {} };
+      crossing = record { 0 = record { 0 = of_approach e a crossing_no }; 1 = record {} };
+      free = record { 0 = of_approach e a free_no; 1 = record {} };
     }
 
 -- "Entry 80 is the cycle CL"

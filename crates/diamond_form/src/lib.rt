@@ -11,7 +11,7 @@ ghost use Rattle.diamond_form.specs.Working.{Near, form_count};
 
 use layout::{EB, GROUPS, NB, SB, WB};
 use page_fields::FIELD_WIDTH;
-use page_form::{TITLE_WIDTH, past};
+use page_form::TITLE_WIDTH;
 
 // A row is a title, a field for each column of a side and a line feed.
 pub const ROW_END: usize = TITLE_WIDTH + FIELD_WIDTH * layout::SIDE_TIMES;
@@ -158,85 +158,109 @@ pub fn heading_byte(part: usize, i: usize) -> u8
     HEADINGS[ROW_END * part + i]
 }
 
-// Byte i of a row.
-pub fn form_byte(row: usize, i: usize) -> u8
-    requires { (row < form_count) × (i < form_width) }
-    ensures { result ≡ form_byte row i }
-{
-    FORM[FORM_WIDTH * row + i]
+// A column of a side; the whole is told by the number past the last side's.
+#[derive(Clone, Copy)]
+pub struct Column {
+    pub side: usize,
+    pub number: usize,
+    pub ghost of_part: { side ≤ side_count },
+    pub ghost in_side: { number < side_times },
 }
 
-// A row's unit is its title's last byte.
-pub fn unit_of(row: usize) -> u8
-    requires { row < form_count }
-    ensures { result ≡ unit_of row }
-{
-    form_byte(row, TITLE_WIDTH - 1)
-}
-
-// What stands in a column of a row.
-pub fn mark_in(row: usize, column: usize) -> u8
-    requires { (row < form_count) × (column < side_times) }
-    ensures { result ≡ mark_in row column }
-{
-    form_byte(row, MARKS_FROM + column)
-}
-
-fn first_of(row: usize) -> usize
-    requires { row < form_count }
-    ensures { (result ≡ first_of row) × Near result }
-{
-    FIRSTS[row]
-}
-
-// The movement that a column of a side is of.
-fn movement_in(side: usize, column: usize) -> usize
-    requires { (side ≤ side_count) × (column < side_times) }
-    ensures { (result ≡ movement_in side column) × (result < movement_count) }
-{
-    let at = layout::SIDE_TIMES * side + column;
-    if at < layout::SIDE_TIMES * layout::SIDES {
-        return MOVEMENTS[at];
+impl Column {
+    pub fn new(side: usize, number: usize) -> Column
+        requires { (side ≤ side_count) × (number < side_times) }
+        ensures { (result.side ≡ side) × (result.number ≡ number) }
+    {
+        Column { side, number }
     }
-    0
+
+    // The movement that it is of.
+    fn movement(self) -> usize
+        ensures { (result ≡ movement_in self.side self.number) × (result < movement_count) }
+    {
+        let at = layout::SIDE_TIMES * self.side + self.number;
+        MOVEMENTS.get(at).copied().unwrap_or(0)
+    }
+}
+
+// A row of the form, which is no heading.
+#[derive(Clone, Copy)]
+pub struct Line {
+    pub number: usize,
+    pub ghost in_form: { number < form_count },
+}
+
+impl Line {
+    // Of a row of the page.
+    pub fn of(row: usize) -> Line
+        requires { (row < row_count) × (0 < line_of row) }
+        ensures { result.number ≡ form_row row }
+    {
+        let line = row % PART_ROWS - 1;
+        let before = if row / PART_ROWS < layout::SIDES {
+            0
+        } else {
+            SIDE_LINES
+        };
+        Line {
+            number: before + line,
+        }
+    }
+
+    // Byte i of it.
+    pub fn byte(self, i: usize) -> u8
+        requires { i < form_width }
+        ensures { result ≡ form_byte self.number i }
+    {
+        FORM[FORM_WIDTH * self.number + i]
+    }
+
+    // Its unit is its title's last byte.
+    pub fn unit(self) -> u8
+        ensures { result ≡ unit_of self.number }
+    {
+        self.byte(TITLE_WIDTH - 1)
+    }
+
+    // What stands in a column. The marks are the form's own bytes: an enum of them would be one table more.
+    pub fn mark_in(self, column: Column) -> u8
+        ensures { result ≡ mark_in self.number column.number }
+    {
+        self.byte(MARKS_FROM + column.number)
+    }
+
+    fn first(self) -> usize
+        ensures { (result ≡ first_of self.number) × Near result }
+    {
+        FIRSTS[self.number]
+    }
+
+    // Where in the page's list the number in a column stands.
+    pub fn number_in(self, column: Column) -> usize
+        ensures { result ≡ number_in self.number column.side column.number }
+    {
+        place_of(self.mark_in(column), self.first(), column)
+    }
 }
 
 // The place in the page's list of what a mark says.
-fn place_of(mark: u8, first: usize, side: usize, column: usize) -> usize
-    requires { Near first × (side ≤ side_count) × (column < side_times) }
-    ensures { result ≡ place_of mark first side column }
+#[tactic(auto, unfolding(crate::specs::Form::place_of))]
+fn place_of(mark: u8, first: usize, column: Column) -> usize
+    requires { Near first }
+    ensures { result ≡ place_of mark first column.side column.number }
 {
-    let sheet = layout::CELLS * side;
-    let movement = movement_in(side, column);
+    let sheet = layout::CELLS * column.side;
+    let movement = column.movement();
     let approach = movement / GROUPS;
-    let line = layout::LINES_FROM + layout::LINES * approach + past(first, 1);
+    let line = layout::LINES_FROM + layout::LINES * approach + first.saturating_sub(1);
     match mark {
         b'm' => sheet + (layout::MOVEMENT_ENTRIES * movement + first),
         b'a' => sheet + (layout::APPROACHES_FROM + layout::APPROACH_ENTRIES * approach + first),
         b'g' => sheet + (line + movement % GROUPS),
         b'l' => sheet + line,
-        b't' => first + layout::SIDE_TIMES * side + column,
-        b's' => first + side + past(column, FIRST_LEFT),
-        _ => first + column,
+        b't' => first + layout::SIDE_TIMES * column.side + column.number,
+        b's' => first + column.side + column.number.saturating_sub(FIRST_LEFT),
+        _ => first + column.number,
     }
-}
-
-// Where in the page's list the number in a column of a row stands.
-pub fn number_in(row: usize, side: usize, column: usize) -> usize
-    requires { (row < form_count) × (side ≤ side_count) × (column < side_times) }
-    ensures { result ≡ number_in row side column }
-{
-    place_of(mark_in(row, column), first_of(row), side, column)
-}
-
-// A row of the page, which is no heading, in the list of rows.
-pub fn form_row(row: usize) -> usize
-    requires { (row < row_count) × (0 < line_of row) }
-    ensures { (result ≡ form_row row) × (result < form_count) }
-{
-    let line = row % PART_ROWS - 1;
-    if row / PART_ROWS < layout::SIDES {
-        return line;
-    }
-    SIDE_LINES + line
 }

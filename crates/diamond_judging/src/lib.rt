@@ -1,26 +1,16 @@
 // A diamond's record judged: the first refusal that applies, or acceptance.
 #![tactic(auto)]
 
-ghost use Rattle.std.specs.Prelude.{◌≡◌, ◌≤◌, length};
+ghost use Rattle.std.specs.Prelude.{◌≡◌, ◌≤◌};
 ghost use Rattle.answers.specs.Answers.{place_of};
 ghost use Rattle.layout.specs.Entries.{entry_count};
-ghost use Rattle.layout.specs.Diamond.{record_count};
 ghost use Rattle.diamond_rules.specs.Record.{counted_on, both_answer, cycles_answer, stores_answer, travel_answer};
-ghost use Rattle.diamond_rules.specs.Record.{junctions_answer, own_answer, record_size, judged_record};
+ghost use Rattle.diamond_rules.specs.Record.{junctions_answer, own_answer, judged_record};
 
 use answers::{Answer, Refusal};
 use entries::Fault;
 use kinds::Kind;
-use layout::Worksheet;
-
-fn check_size(numbers: &[u32]) -> Answer
-    ensures { result ≡ record_size numbers.now }
-{
-    if numbers.len() != layout::RECORD {
-        return Answer::Refused(Refusal::Size, 0);
-    }
-    Answer::Accepted
-}
+use layout::{RECORD, Worksheet};
 
 // The place of a refusal counted on from the places before it.
 fn count_on(before: usize, answer: Answer) -> Answer
@@ -34,8 +24,8 @@ fn count_on(before: usize, answer: Answer) -> Answer
 }
 
 // The lowest place of one fault over both junctions, the west's first.
-fn check_both(numbers: &[u32], fault: Fault) -> Answer
-    requires { length numbers.now ≡ record_count }
+#[tactic(auto, unfolding(diamond_rules::specs::Record::both_answer))]
+fn check_both(numbers: &[u32; RECORD], fault: Fault) -> Answer
     ensures { result ≡ both_answer numbers.now fault }
 {
     let west = entries::check_for(Worksheet::Junction, diamond_rules::west_of(numbers), fault);
@@ -48,8 +38,8 @@ fn check_both(numbers: &[u32], fault: Fault) -> Answer
 }
 
 // Both junctions have one cycle.
-fn check_cycles(numbers: &[u32]) -> Answer
-    requires { length numbers.now ≡ record_count }
+#[tactic(auto, unfolding(diamond_rules::specs::Record::cycles_answer))]
+fn check_cycles(numbers: &[u32; RECORD]) -> Answer
     ensures { result ≡ cycles_answer numbers.now }
 {
     let west = entries::cycle_entry(diamond_rules::west_of(numbers));
@@ -60,8 +50,8 @@ fn check_cycles(numbers: &[u32]) -> Answer
     Answer::Accepted
 }
 
-fn check_junctions(numbers: &[u32]) -> Answer
-    requires { length numbers.now ≡ record_count }
+#[tactic(auto, unfolding(diamond_rules::specs::Record::junctions_answer))]
+fn check_junctions(numbers: &[u32; RECORD]) -> Answer
     ensures { result ≡ junctions_answer numbers.now }
 {
     let ranges = check_both(numbers, Fault::Range);
@@ -79,23 +69,20 @@ fn check_junctions(numbers: &[u32]) -> Answer
     check_both(numbers, Fault::NoLane)
 }
 
-fn check_stores(numbers: &[u32]) -> Answer
-    requires { length numbers.now ≡ record_count }
+fn check_stores(numbers: &[u32; RECORD]) -> Answer
     ensures { result ≡ stores_answer numbers.now }
 {
-    let mut storage = 0;
-    while storage < layout::STORAGES {
+    for storage in 0..layout::STORAGES {
         let place = layout::STORAGES_FROM + storage;
         if !Kind::Storage.holds(numbers[place]) {
             return Answer::Refused(Refusal::Store, place as u32);
         }
-        storage += 1;
     }
     Answer::Accepted
 }
 
-fn check_travel(numbers: &[u32]) -> Answer
-    requires { length numbers.now ≡ record_count }
+#[tactic(auto, unfolding(diamond_rules::specs::Record::travel_answer))]
+fn check_travel(numbers: &[u32; RECORD]) -> Answer
     ensures { result ≡ travel_answer numbers.now }
 {
     if !Kind::TravelTime.holds(numbers[layout::TRAVEL_PLACE]) {
@@ -105,8 +92,8 @@ fn check_travel(numbers: &[u32]) -> Answer
 }
 
 // The record's own numbers.
-fn check_own(numbers: &[u32]) -> Answer
-    requires { length numbers.now ≡ record_count }
+#[tactic(auto, unfolding(diamond_rules::specs::Record::own_answer))]
+fn check_own(numbers: &[u32; RECORD]) -> Answer
     ensures { result ≡ own_answer numbers.now }
 {
     let stores = check_stores(numbers);
@@ -120,9 +107,8 @@ fn check_own(numbers: &[u32]) -> Answer
 pub fn judge(numbers: &[u32]) -> Answer
     ensures { result ≡ judged_record numbers.now }
 {
-    let size = check_size(numbers);
-    let Answer::Accepted = size else {
-        return size;
+    let Some(numbers) = numbers.as_array() else {
+        return Answer::Refused(Refusal::Size, 0);
     };
     let junctions = check_junctions(numbers);
     let Answer::Accepted = junctions else {

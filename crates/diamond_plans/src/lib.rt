@@ -1,7 +1,7 @@
 // The timing plans of a diamond: isolated times, overlaps, Table 6-4, which plan is picked, the ICU and its letter.
 #![tactic(auto)]
 
-ghost use Rattle.std.specs.Prelude.{◌≡◌, Bool, ◌≤◌, min};
+ghost use Rattle.std.specs.Prelude.{◌≡◌, Bool, ◌≤◌};
 ghost use Rattle.kinds.specs.declared.Kind.TheVariants.{Cycle as CycleKind, TravelTime as TravelKind};
 ghost use Rattle.kinds.specs.Kinds.{Within};
 ghost use Rattle.diamond_rules.specs.Lines.{entering, off_ramp, isolated, alternate, combined, overlap, held, leading_alternate};
@@ -11,7 +11,7 @@ ghost use Rattle.diamond_plans.specs.Working.{SmallSide, plans_by};
 use diamond_rules::Side;
 use kinds::{Cycle, TravelTime};
 use layout::{PLANS, SIDE_TIMES, SIDES};
-use line_formulas::larger;
+use sheet_pairs::Pick;
 use units::Ms;
 
 // The cells of the isolated times, the alternates, the combined and the overlaps; and those from the plans on.
@@ -31,14 +31,14 @@ pub struct Plans {
 fn entering_of(s: Side) -> Ms
     ensures { result.0 ≡ entering s }
 {
-    larger(s.through, s.right)
+    s.through.max(s.right)
 }
 
 // What the ramp takes.
 fn off_ramp(s: Side) -> Ms
     ensures { result.0 ≡ off_ramp s }
 {
-    larger(larger(s.rampleft, s.rampthrough), s.rampright)
+    s.rampleft.max(s.rampthrough).max(s.rampright)
 }
 
 // Line 28.
@@ -46,7 +46,7 @@ fn isolated_of(s: Side) -> Ms
     requires { SmallSide s }
     ensures { result.0 ≡ isolated s }
 {
-    let ramp = larger(s.rampleft, s.rampthrough);
+    let ramp = s.rampleft.max(s.rampthrough);
     Ms(entering_of(s).0 + s.onramp.0 + ramp.0)
 }
 
@@ -63,21 +63,14 @@ fn combined_of(s: Side) -> Ms
     requires { SmallSide s }
     ensures { result.0 ≡ combined s }
 {
-    larger(isolated_of(s), alternate_of(s))
-}
-
-// The smaller of two times.
-fn smaller(a: Ms, b: Ms) -> Ms
-    ensures { result.0 ≡ min a.0 b.0 }
-{
-    if a.0 <= b.0 { a } else { b }
+    isolated_of(s).max(alternate_of(s))
 }
 
 // Line 31.
 fn overlap_of(travel: TravelTime, s: Side) -> Ms
     ensures { result.0 ≡ overlap travel.0.0 s }
 {
-    smaller(travel.0, entering_of(s))
+    travel.0.min(entering_of(s))
 }
 
 // The ramp, held at least twice the travel time.
@@ -85,7 +78,7 @@ fn held_of(travel: TravelTime, s: Side) -> Ms
     requires { Within TravelKind travel.0.0 }
     ensures { result.0 ≡ held travel.0.0 s }
 {
-    larger(off_ramp(s), Ms(2 * travel.0.0))
+    off_ramp(s).max(Ms(2 * travel.0.0))
 }
 
 // Line 32, Table 6-4. Neither overlap is longer than the ramp is held before it.
@@ -112,7 +105,7 @@ pub fn plans_of(travel: TravelTime, w: Side, e: Side, four: bool, two: bool) -> 
     requires { (Within TravelKind travel.0.0) × SmallSide w × SmallSide e }
     ensures { result ≡ plans_by travel.0.0 w e four two }
 {
-    let time = larger(combined_of(w), combined_of(e));
+    let time = combined_of(w).max(combined_of(e));
     Plans {
         leading: leading_of(travel, w, e),
         lagging: if_allowed(four, time),
@@ -120,19 +113,30 @@ pub fn plans_of(travel: TravelTime, w: Side, e: Side, four: bool, two: bool) -> 
     }
 }
 
-// Lines 32–37: the plans, which of them is picked, its time, the ICU and its letter.
+// Lines 32–37: the plans, which of them is picked, its time, the ICU and its letter. Of a diamond, leading stands for protected, lagging
+// for permitted and lead-lag for split.
 pub fn best_of(plans: Plans, cycle: Cycle) -> [u32; BEST_CELLS]
     requires { Within CycleKind cycle.0 }
     ensures { result ≡ best_of plans.leading.0 plans.lagging.0 plans.leadlag.0 cycle.0 }
 {
-    let leading = plans.leading.0;
-    let lagging = plans.lagging.0;
-    let leadlag = plans.leadlag.0;
-    let picked = sheet_pairs::pick(plans.leading, plans.lagging, plans.leadlag);
-    let best = sheet_pairs::by_pick(picked, leading, lagging, leadlag);
-    let icu = sheet_totals::icu_of(Ms(best), cycle);
+    let Plans {
+        leading,
+        lagging,
+        leadlag,
+    } = plans;
+    let picked = Pick::least(leading, lagging, leadlag);
+    let best = picked.choose(leading, lagging, leadlag);
+    let icu = sheet_totals::icu_of(best, cycle);
     let letter = sheet_totals::letter_of(icu);
-    [leading, lagging, leadlag, picked, best, icu, letter]
+    [
+        leading.0,
+        lagging.0,
+        leadlag.0,
+        u32::from(picked),
+        best.0,
+        icu,
+        letter,
+    ]
 }
 
 // Lines 28–31 of both sides.

@@ -42,8 +42,8 @@ fn served_at(entries: &[u32], approach: usize) -> Served
     let times = lines.first.times;
     let free = FreeRight::new(entries::approach_value(entries, approach, layout::FREE_NO));
     Served {
-        left: Ms(times.adjustedleft.0),
-        through: Ms(times.adjustedthrough.0),
+        left: times.adjustedleft,
+        through: times.adjustedthrough,
         right: unless_free(free, times.adjustedright),
     }
 }
@@ -57,12 +57,12 @@ pub fn side_at(entries: &[u32], outer: usize, inner: usize, ramp: usize) -> Side
     let y = served_at(entries, inner);
     let z = served_at(entries, ramp);
     Side {
-        through: Ms(x.through.0),
-        right: Ms(x.right.0),
-        onramp: Ms(y.left.0),
-        inner: Ms(y.through.0),
-        rampleft: Ms(z.left.0),
-        rampthrough: Ms(z.through.0),
-        rampright: Ms(z.right.0),
+        through: x.through,
+        right: x.right,
+        onramp: y.left,
+        inner: y.through,
+        rampleft: z.left,
+        rampthrough: z.through,
+        rampright: z.right,
     }
 }

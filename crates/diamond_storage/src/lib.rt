@@ -9,9 +9,9 @@ ghost use Rattle.entries.specs.Layout.{volume as volume_of};
 ghost use Rattle.entries.specs.Judging.{judged};
 ghost use Rattle.kinds.specs.declared.Kind.TheVariants.{Volume as VolumeKind, Cycle as CycleKind, Storage as StorageKind};
 ghost use Rattle.kinds.specs.Kinds.{Within};
-ghost use Rattle.diamond_rules.specs.Record.{judged_record, storage};
 ghost use Rattle.diamond_rules.specs.Lines.{below1, stored, fits};
 
+use diamond_rules::Record;
 use kinds::{Cycle, Storage, Volume};
 use layout::{EB, NB, SB, WB};
 
@@ -37,39 +37,30 @@ fn is_below(volume: Volume, cycle: Cycle, room: Storage) -> bool
 
 fn left_of(entries: &[u32], approach: usize) -> Volume
     requires { (judged entries.now ≡ Accepted) × (approach < approach_count) }
-    ensures { result.0.0 ≡ volume_of entries.now (left approach) }
+    ensures { (result.0.0 ≡ volume_of entries.now (left approach)) × Within VolumeKind result.0.0 }
 {
     Volume::new(entries::movement_value(entries, layout::GROUPS * approach, layout::VOLUME_NO))
 }
 
-// The left volume that a storage is for.
-pub fn stored_at(numbers: &[u32], place: usize) -> Volume
-    requires { (judged_record numbers.now ≡ Accepted) × (place < storage_count) }
-    ensures { result.0.0 ≡ stored numbers.now place }
+// The left volume that a storage is for; the storages are told by their places in the record.
+pub fn stored_at(given: Record, place: usize) -> Volume
+    requires { place < storage_count }
+    ensures { (result.0.0 ≡ stored given.entry.numbers.now place) × Within VolumeKind result.0.0 }
 {
-    let west = diamond_rules::west_of(numbers);
-    let east = diamond_rules::east_of(numbers);
     match place {
-        0 => left_of(west, WB),
-        1 => left_of(east, EB),
-        2 => left_of(west, SB),
-        _ => left_of(east, NB),
+        0 => left_of(given.west(), WB),
+        1 => left_of(given.east(), EB),
+        2 => left_of(given.west(), SB),
+        _ => left_of(given.east(), NB),
     }
 }
 
-// The storage itself.
-fn storage_at(numbers: &[u32], place: usize) -> Storage
-    requires { (judged_record numbers.now ≡ Accepted) × (place < storage_count) }
-    ensures { result.0 ≡ storage numbers.now place }
-{
-    Storage::new(numbers[layout::STORAGES_FROM + place])
-}
-
 // Whether the ratio of a storage is below 1.
-pub fn fits_at(numbers: &[u32], place: usize) -> bool
-    requires { (judged_record numbers.now ≡ Accepted) × (place < storage_count) }
-    ensures { result ≡ fits numbers.now place }
+#[tactic(auto, unfolding(diamond_rules::specs::Lines::fits))]
+pub fn fits_at(given: Record, place: usize) -> bool
+    requires { place < storage_count }
+    ensures { result ≡ fits given.entry.numbers.now place }
 {
-    let cycle = procedure::read_cycle(diamond_rules::west_of(numbers));
-    is_below(stored_at(numbers, place), cycle, storage_at(numbers, place))
+    let cycle = procedure::read_cycle(given.west());
+    is_below(stored_at(given, place), cycle, given.storage(place))
 }

@@ -15,8 +15,11 @@ use answers::{Answer, Refusal};
 use kinds::{Group, Kind};
 use layout::Worksheet;
 
+// As many numbers as there are entries.
+type Entries = [u32; layout::ENTRIES];
+
 // What judging can find wrong, in the order in which it is looked for.
-#[derive(Clone, Copy)]
+#[derive(Clone, Copy, PartialEq, Eq, Debug)]
 pub enum Fault {
     // an entry outside its range
     Range,
@@ -76,8 +79,8 @@ pub fn check_size(entries: &[u32]) -> Answer
     Answer::Accepted
 }
 
-fn is_outside(entries: &[u32], entry: usize) -> bool
-    requires { entry < length entries.now }
+fn is_outside(entries: &Entries, entry: usize) -> bool
+    requires { entry < entry_count }
     ensures { result ≡ outside entries.now entry }
 {
     !Kind::at(entry).holds(entries[entry])
@@ -86,27 +89,23 @@ fn is_outside(entries: &[u32], entry: usize) -> bool
 // Whether the entries of a group, `count` from `first` on, are in range.
 //
 // Their kinds are read from `like` on, a constant at each call, so that the limits are constants there too.
-fn run_in_range(entries: &[u32], first: usize, like: usize, count: usize) -> bool
-    requires { (length entries.now ≡ entry_count) × (first + count ≤ entry_count) × (like + count ≤ entry_count) × Alike count first like }
+fn run_in_range(entries: &Entries, first: usize, like: usize, count: usize) -> bool
+    requires { (first + count ≤ entry_count) × (like + count ≤ entry_count) × Alike count first like }
     ensures { result ≡ all_in_range entries.now first count }
 {
-    let mut place = 0;
-    while place < count {
+    for place in 0..count {
         if !Kind::at(like + place).holds(entries[first + place]) {
             return false;
         }
-        place += 1;
     }
     true
 }
 
 // Whether every entry is in range, which is told sooner than the place of one that is not.
-fn all_in_range(entries: &[u32]) -> bool
-    requires { length entries.now ≡ entry_count }
+fn all_in_range(entries: &Entries) -> bool
     ensures { result ≡ all_in_range entries.now 0 entry_count }
 {
-    let mut movement = 0;
-    while movement < layout::MOVEMENTS {
+    for movement in 0..layout::MOVEMENTS {
         if !run_in_range(
             entries,
             layout::MOVEMENT_ENTRIES * movement,
@@ -115,10 +114,8 @@ fn all_in_range(entries: &[u32]) -> bool
         ) {
             return false;
         }
-        movement += 1;
     }
-    let mut approach = 0;
-    while approach < layout::APPROACHES {
+    for approach in 0..layout::APPROACHES {
         if !run_in_range(
             entries,
             layout::APPROACHES_FROM + layout::APPROACH_ENTRIES * approach,
@@ -127,22 +124,21 @@ fn all_in_range(entries: &[u32]) -> bool
         ) {
             return false;
         }
-        approach += 1;
     }
     Kind::Cycle.holds(cycle_entry(entries))
 }
 
 // Whether an approach shares a lane.
-fn is_shared(entries: &[u32], approach: usize) -> bool
-    requires { (length entries.now ≡ entry_count) × (approach < approach_count) }
+fn is_shared(entries: &Entries, approach: usize) -> bool
+    requires { approach < approach_count }
     ensures { result ≡ eqb (shared entries.now approach) 1 }
 {
     approach_entry(entries, approach, layout::SHARED_NO) == 1
 }
 
 // Whether a shared lane stands beside left lanes, or without a through lane.
-fn is_badly_placed(entries: &[u32], approach: usize) -> bool
-    requires { (length entries.now ≡ entry_count) × (approach < approach_count) }
+fn is_badly_placed(entries: &Entries, approach: usize) -> bool
+    requires { approach < approach_count }
     ensures { result ≡ badly_shared JunctionSheet entries.now approach }
 {
     if !is_shared(entries, approach) {
@@ -154,8 +150,8 @@ fn is_badly_placed(entries: &[u32], approach: usize) -> bool
     movement_entry(entries, layout::GROUPS * approach + 1, layout::LANES_NO) == 0
 }
 
-fn is_badly_shared(kind: Worksheet, entries: &[u32], approach: usize) -> bool
-    requires { (length entries.now ≡ entry_count) × (approach < approach_count) }
+fn is_badly_shared(kind: Worksheet, entries: &Entries, approach: usize) -> bool
+    requires { approach < approach_count }
     ensures { result ≡ badly_shared kind entries.now approach }
 {
     match kind {
@@ -165,8 +161,8 @@ fn is_badly_shared(kind: Worksheet, entries: &[u32], approach: usize) -> bool
 }
 
 // Lanes that serve a group beside its own.
-fn other_lanes(entries: &[u32], approach: usize, group: Group) -> u32
-    requires { (length entries.now ≡ entry_count) × (approach < approach_count) }
+fn other_lanes(entries: &Entries, approach: usize, group: Group) -> u32
+    requires { approach < approach_count }
     ensures { result ≡ other_lanes entries.now approach group }
 {
     match group {
@@ -176,8 +172,8 @@ fn other_lanes(entries: &[u32], approach: usize, group: Group) -> u32
     }
 }
 
-fn is_unserved(entries: &[u32], movement: usize) -> bool
-    requires { (length entries.now ≡ entry_count) × (movement < movement_count) }
+fn is_unserved(entries: &Entries, movement: usize) -> bool
+    requires { movement < movement_count }
     ensures { result ≡ unserved entries.now movement }
 {
     if movement_entry(entries, movement, layout::VOLUME_NO) == 0 {
@@ -189,17 +185,19 @@ fn is_unserved(entries: &[u32], movement: usize) -> bool
     other_lanes(entries, movement / layout::GROUPS, Group::of(movement)) == 0
 }
 
-impl Fault {
-    fn refusal(self) -> Refusal
-        ensures { result ≡ refusal_of self }
-    {
-        match self {
+impl From<Fault> for Refusal {
+    ghost from_gives = { λ fault why. why ≡ refusal_of fault };
+
+    fn from(fault: Fault) -> Refusal {
+        match fault {
             Fault::Range => Refusal::Range,
             Fault::Shared => Refusal::Shared,
             Fault::NoLane => Refusal::NoLane,
         }
     }
+}
 
+impl Fault {
     // How many entries, approaches or movements there are to be asked.
     pub fn count(self) -> usize
         ensures { result ≡ count_of self }
@@ -212,8 +210,8 @@ impl Fault {
     }
 }
 
-fn is_faulty(kind: Worksheet, entries: &[u32], fault: Fault, index: usize) -> bool
-    requires { (length entries.now ≡ entry_count) × (index < count_of fault) }
+fn is_faulty(kind: Worksheet, entries: &Entries, fault: Fault, index: usize) -> bool
+    requires { index < count_of fault }
     ensures { result ≡ faulty kind entries.now fault index }
 {
     match fault {
@@ -224,24 +222,19 @@ fn is_faulty(kind: Worksheet, entries: &[u32], fault: Fault, index: usize) -> bo
 }
 
 // The lowest entry, approach or movement that has this fault.
-fn check_each(kind: Worksheet, entries: &[u32], fault: Fault) -> Answer
-    requires { length entries.now ≡ entry_count }
+fn check_each(kind: Worksheet, entries: &Entries, fault: Fault) -> Answer
     ensures { result ≡ each_answer kind entries.now fault }
 {
-    let count = fault.count();
-    let mut index = 0;
-    while index < count {
+    for index in 0..fault.count() {
         if is_faulty(kind, entries, fault, index) {
-            return Answer::Refused(fault.refusal(), index as u32);
+            return Answer::Refused(fault.into(), index as u32);
         }
-        index += 1;
     }
     Answer::Accepted
 }
 
 // The lowest entry outside its range, looked for only where there is one.
-fn check_ranges(kind: Worksheet, entries: &[u32]) -> Answer
-    requires { length entries.now ≡ entry_count }
+fn check_ranges(kind: Worksheet, entries: &Entries) -> Answer
     ensures { result ≡ each_answer kind entries.now Fault.Range }
 {
     if all_in_range(entries) {
@@ -250,11 +243,23 @@ fn check_ranges(kind: Worksheet, entries: &[u32]) -> Answer
     check_each(kind, entries, Fault::Range)
 }
 
+// A list as long as it should be, as the entries.
+fn whole(entries: &[u32]) -> &Entries
+    requires { length entries.now ≡ entry_count }
+    ensures { result.now ≡ entries.now }
+{
+    match entries.try_into() {
+        Ok(whole) => whole,
+        Err(_) => unreachable!(),
+    }
+}
+
 // The lowest place of one fault: what each of a diamond's junctions is asked, too.
 pub fn check_for(kind: Worksheet, entries: &[u32], fault: Fault) -> Answer
     requires { length entries.now ≡ entry_count }
     ensures { result ≡ each_answer kind entries.now fault }
 {
+    let entries = whole(entries);
     match fault {
         Fault::Range => check_ranges(kind, entries),
         Fault::Shared => check_each(kind, entries, Fault::Shared),
@@ -270,6 +275,7 @@ pub fn judge(kind: Worksheet, entries: &[u32]) -> Answer
     let Answer::Accepted = size else {
         return size;
     };
+    let entries = whole(entries);
     let ranges = check_ranges(kind, entries);
     let Answer::Accepted = ranges else {
         return ranges;

@@ -13,6 +13,7 @@ use Prim.Native.Nat.{ℕ, ◌+◌, ◌<◌, ◌≤◌, ◌*◌, ◌/◌}
 use lib.Dec.{eqb}
 use lib.ListN.{length, get_or, set, take, drop}
 use borrow.Author.Tests.{ne_eqb}
+use Rattle.std.specs.Prelude.{Ok, Err}
 use Rattle.units.specs.Rounding.{up}
 use Rattle.units.specs.Unit.{flow_unit}
 use Rattle.answers.specs.Answers.{◌then◌, left_by, lowest, refusal_number}
@@ -58,9 +59,7 @@ use Rattle.study_theorems.proofs.Study as studies
 use Rattle.study_listing.specs.Listing.{listing}
 use Rattle.study_listing.proofs.Laws.{length-listing}
 use Rattle.text_scan.specs.Scanning.{parsed}
-use Rattle.text_reader.specs.Reader.{reading, kept_unless_read}
-use Rattle.text_reader.specs.declared.Reading.{Reading}
-use Rattle.text_reader.specs.declared.Reading.TheVariants.{Read, Misread, Refused as NotAccepted}
+use Rattle.text_reader.specs.Reader.{Reading, reading, kept_unless_read}
 use Rattle.text_writer.specs.Writer.{junction_text}
 use Rattle.text_theorems.proofs.RoundTrip as texts
 use Rattle.page_form.specs.Form.{shown_count}
@@ -542,7 +541,7 @@ written_as_text = texts.entries_back
 
 -- .. and those acceptable for a sheet of a kind are read for it with nothing wrong: the reader leaves them, whatever its list held.
 pub accepted_as_text :
-    (e : List ℕ) → length e ≡ entry_count → AllBelow number_limit e → (k : Worksheet) → judged_for k e ≡ Accepted → reading k (junction_text e) ≡ Read
+    (e : List ℕ) → length e ≡ entry_count → AllBelow number_limit e → (k : Worksheet) → judged_for k e ≡ Accepted → reading k (junction_text e) ≡ Ok tt
 accepted_as_text = texts.read_back
 
 pub left_as_text :
@@ -555,10 +554,9 @@ pub on_the_page : (k : Worksheet) (cell : ℕ) → cell < shown_count k → OnPa
 on_the_page = on_page
 
 -- A text that is not read alters nothing.
-pub refused_text : (k : Worksheet) (text new old : List ℕ) → (reading k text ≡ Read → ⊥) → kept_unless_read (reading k text) new old ≡ old
+pub refused_text : (k : Worksheet) (text new old : List ℕ) → (reading k text ≡ Ok tt → ⊥) → kept_unless_read (reading k text) new old ≡ old
 refused_text k text new old = by (reading k text)
   where
-    by : (r : Reading) → (r ≡ Read → ⊥) → kept_unless_read r new old ≡ old
-    by Read refused = absurd (refused refl)
-    by (Misread why place) refused = refl
-    by (NotAccepted why at place) refused = refl
+    by : (r : Reading) → (r ≡ Ok tt → ⊥) → kept_unless_read r new old ≡ old
+    by (Ok done) refused = absurd (refused refl)
+    by (Err why) refused = refl

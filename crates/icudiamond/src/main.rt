@@ -3,7 +3,7 @@
 #![tactic(auto)]
 
 use program_diamond::{DiamondCall, PRINTED_BYTES};
-use program_outcome::{AREA_BYTES, Input, Lengths, SAID_BYTES};
+use program_outcome::{AREA_BYTES, Input, SAID_BYTES};
 use program_record::{EAST, Files, WEST};
 
 // Room for the texts' names and the numbers.
@@ -20,18 +20,7 @@ fn read(
     if program_diamond::takes(count) {
         return program_io::read_named(rt, program_words::word(words, place), area);
     }
-    Input::Failed
-}
-
-fn put_out(
-    rt: &HostRuntime,
-    lengths: Lengths,
-    printed: &[u8; PRINTED_BYTES],
-    said: &[u8; SAID_BYTES],
-) {
-    let err = rt.stderr();
-    program_io::print(rt, &err, b"icudiamond", printed, lengths.prints);
-    program_io::say(&err, said, lengths.says);
+    None
 }
 
 fn give(
@@ -44,7 +33,7 @@ fn give(
     let mut printed = [0u8; PRINTED_BYTES];
     let mut said = [0u8; SAID_BYTES];
     let lengths = program_diamond::run(call, words, west, east, &mut printed, &mut said);
-    put_out(rt, lengths, &printed, &said);
+    program_io::put_out(rt, &rt.stderr(), b"icudiamond", lengths, &printed, &said);
 }
 
 fn run(rt: &HostRuntime, words: &[u8]) {
@@ -59,6 +48,5 @@ fn run(rt: &HostRuntime, words: &[u8]) {
 
 fn main(rt: HostRuntime) {
     let mut words = [0u8; WORDS_BYTES];
-    let size = program_io::take_words(&rt, &mut words);
-    run(&rt, program_outcome::front(&words, size));
+    run(&rt, program_io::take_words(&rt, &mut words));
 }

@@ -12,16 +12,12 @@ const WORDS_BYTES: usize = program_io::WORD_ROOM;
 // Reads the file that the first word names, or standard input, if there are as many arguments as there should be.
 fn read(rt: &HostRuntime, count: usize, words: &[u8], area: &mut [u8; AREA_BYTES]) -> Input {
     if !program_list::takes(count) {
-        return Input::Failed;
+        return None;
     }
     if program_list::is_named(count) {
         return program_io::read_named(rt, program_words::word(words, 0), area);
     }
     program_io::read_open(&mut rt.stdin(), area)
-}
-
-fn print(rt: &HostRuntime, printed: &[u8; PRINTED_BYTES], size: usize) {
-    program_io::print(rt, &rt.stderr(), b"iculist", printed, size);
 }
 
 fn run(rt: &HostRuntime, words: &[u8]) {
@@ -36,12 +32,10 @@ fn run(rt: &HostRuntime, words: &[u8]) {
         input,
     };
     let lengths = program_list::run(call, words, &area, &mut printed, &mut said);
-    print(rt, &printed, lengths.prints);
-    program_io::say(&rt.stderr(), &said, lengths.says);
+    program_io::put_out(rt, &rt.stderr(), b"iculist", lengths, &printed, &said);
 }
 
 fn main(rt: HostRuntime) {
     let mut words = [0u8; WORDS_BYTES];
-    let size = program_io::take_words(&rt, &mut words);
-    run(&rt, program_outcome::front(&words, size));
+    run(&rt, program_io::take_words(&rt, &mut words));
 }

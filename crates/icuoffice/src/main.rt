@@ -6,7 +6,7 @@ use open_file::OPEN_BYTES;
 use program_office::Job;
 use program_open::{STUDY, TEXT};
 use program_open_add::Files;
-use program_outcome::{AREA_BYTES, Lengths, SAID_BYTES};
+use program_outcome::{AREA_BYTES, SAID_BYTES};
 use program_target::Found;
 use std::fs::File;
 
@@ -21,24 +21,9 @@ fn find(rt: &HostRuntime, words: &[u8], area: &mut [u8; AREA_BYTES]) -> Found {
 }
 
 // Prints, and gives up the lock: it becomes the study where one is written.
-fn settle(
-    rt: &HostRuntime,
-    words: &[u8],
-    file: File,
-    printed: &[u8],
-    written: &[u8; OPEN_BYTES],
-    size: usize,
-) {
+fn settle(rt: &HostRuntime, words: &[u8], file: File, printed: &[u8], written: &[u8]) {
     let name = program_words::word(words, STUDY);
-    program_io::settle_lock(
-        rt,
-        &rt.stderr(),
-        b"icuoffice",
-        name,
-        file,
-        printed,
-        program_outcome::front(written, size),
-    );
+    program_io::settle_lock(rt, &rt.stderr(), b"icuoffice", name, file, printed, written);
 }
 
 fn start(rt: &HostRuntime, words: &[u8]) {
@@ -51,19 +36,8 @@ fn start(rt: &HostRuntime, words: &[u8]) {
     let found = find(rt, words, &mut area);
     let lengths = program_office::start(found, words, &mut written, &mut said);
     program_io::say(&rt.stderr(), &said, lengths.says);
-    settle(rt, words, file, b"", &written, lengths.writes);
-}
-
-fn settle_add(
-    rt: &HostRuntime,
-    words: &[u8],
-    file: File,
-    printed: &[u8; program_open_add::PRINTED_BYTES],
-    written: &[u8; OPEN_BYTES],
-    lengths: Lengths,
-) {
-    let shown = program_outcome::front(printed, lengths.prints);
-    settle(rt, words, file, shown, written, lengths.writes);
+    let written = program_outcome::front(&written, lengths.writes);
+    settle(rt, words, file, b"", written);
 }
 
 // The text is read first, since it may come slowly and others wait for the lock.
@@ -92,19 +66,9 @@ fn add(rt: &HostRuntime, words: &[u8]) {
         &mut said,
     );
     program_io::say(&rt.stderr(), &said, lengths.says);
-    settle_add(rt, words, file, &printed, &written, lengths);
-}
-
-fn settle_amend(
-    rt: &HostRuntime,
-    words: &[u8],
-    file: File,
-    printed: &[u8; program_open_amend::PRINTED_BYTES],
-    written: &[u8; OPEN_BYTES],
-    lengths: Lengths,
-) {
-    let shown = program_outcome::front(printed, lengths.prints);
-    settle(rt, words, file, shown, written, lengths.writes);
+    let printed = program_outcome::front(&printed, lengths.prints);
+    let written = program_outcome::front(&written, lengths.writes);
+    settle(rt, words, file, printed, written);
 }
 
 fn amend(rt: &HostRuntime, words: &[u8]) {
@@ -125,11 +89,9 @@ fn amend(rt: &HostRuntime, words: &[u8]) {
         &mut said,
     );
     program_io::say(&rt.stderr(), &said, lengths.says);
-    settle_amend(rt, words, file, &printed, &written, lengths);
-}
-
-fn print_read(rt: &HostRuntime, printed: &[u8; program_open_read::PRINTED_BYTES], size: usize) {
-    program_io::print(rt, &rt.stderr(), b"icuoffice", printed, size);
+    let printed = program_outcome::front(&printed, lengths.prints);
+    let written = program_outcome::front(&written, lengths.writes);
+    settle(rt, words, file, printed, written);
 }
 
 // A study that is only read needs no lock: it is whole at any time.
@@ -139,20 +101,14 @@ fn read(rt: &HostRuntime, words: &[u8]) {
     let mut said = [0u8; SAID_BYTES];
     let input = program_io::read_named(rt, program_words::word(words, STUDY), &mut area);
     let lengths = program_open_read::run(input, words, &area, &mut printed, &mut said);
-    print_read(rt, &printed, lengths.prints);
-    program_io::say(&rt.stderr(), &said, lengths.says);
-}
-
-fn print_told(rt: &HostRuntime, printed: &[u8; program_office::TOLD_BYTES], size: usize) {
-    program_io::print(rt, &rt.stderr(), b"icuoffice", printed, size);
+    program_io::put_out(rt, &rt.stderr(), b"icuoffice", lengths, &printed, &said);
 }
 
 fn tell(rt: &HostRuntime, job: Job) {
     let mut printed = [0u8; program_office::TOLD_BYTES];
     let mut said = [0u8; SAID_BYTES];
     let lengths = program_office::tell(job, &mut printed, &mut said);
-    print_told(rt, &printed, lengths.prints);
-    program_io::say(&rt.stderr(), &said, lengths.says);
+    program_io::put_out(rt, &rt.stderr(), b"icuoffice", lengths, &printed, &said);
 }
 
 fn run(rt: &HostRuntime, words: &[u8]) {
@@ -162,14 +118,11 @@ fn run(rt: &HostRuntime, words: &[u8]) {
         Job::Add => add(rt, words),
         Job::Amend => amend(rt, words),
         Job::Read => read(rt, words),
-        Job::Use => tell(rt, job),
-        Job::Help => tell(rt, job),
-        Job::Version => tell(rt, job),
+        Job::Use | Job::Help | Job::Version => tell(rt, job),
     }
 }
 
 fn main(rt: HostRuntime) {
     let mut words = [0u8; WORDS_BYTES];
-    let size = program_io::take_words(&rt, &mut words);
-    run(&rt, program_outcome::front(&words, size));
+    run(&rt, program_io::take_words(&rt, &mut words));
 }

@@ -2,7 +2,7 @@
 // printed and said is the calls' to promise; the rest is input and output.
 #![tactic(auto)]
 
-use program_outcome::{AREA_BYTES, Call, Input, Lengths, SAID_BYTES};
+use program_outcome::{AREA_BYTES, Call, Input, SAID_BYTES};
 use program_sheet::PRINTED_BYTES;
 
 // Room for the word that asks for a worksheet, a file's name and a site.
@@ -13,27 +13,14 @@ fn read(rt: &HostRuntime, count: usize, words: &[u8], area: &mut [u8; AREA_BYTES
     if program_sheet::takes(count) {
         return program_io::read_named(rt, program_words::word(words, 0), area);
     }
-    Input::Failed
-}
-
-// Prints and says, and answers whether all was printed.
-fn put_out(
-    rt: &HostRuntime,
-    lengths: Lengths,
-    printed: &[u8; PRINTED_BYTES],
-    said: &[u8; SAID_BYTES],
-) -> bool {
-    let err = rt.stderr();
-    let is_printed = program_io::print(rt, &err, b"icusheet", printed, lengths.prints);
-    program_io::say(&err, said, lengths.says);
-    is_printed
+    None
 }
 
 fn run_once(rt: &HostRuntime, call: Call, words: &[u8], area: &[u8; AREA_BYTES]) {
     let mut printed = [0u8; PRINTED_BYTES];
     let mut said = [0u8; SAID_BYTES];
     let lengths = program_sheet::run(call, words, area, &mut printed, &mut said);
-    put_out(rt, lengths, &printed, &said);
+    program_io::put_out(rt, &rt.stderr(), b"icusheet", lengths, &printed, &said);
 }
 
 fn put_page(
@@ -46,7 +33,7 @@ fn put_page(
     let mut printed = [0u8; PRINTED_BYTES];
     let mut said = [0u8; SAID_BYTES];
     let lengths = program_sheet::page(call, words, area, site, &mut printed, &mut said);
-    put_out(rt, lengths, &printed, &said)
+    program_io::put_out(rt, &rt.stderr(), b"icusheet", lengths, &printed, &said)
 }
 
 // Page after page, where the sheets of all sites are asked for, until one cannot be printed.
@@ -76,6 +63,5 @@ fn run(rt: &HostRuntime, words: &[u8]) {
 
 fn main(rt: HostRuntime) {
     let mut words = [0u8; WORDS_BYTES];
-    let size = program_io::take_words(&rt, &mut words);
-    run(&rt, program_outcome::front(&words, size));
+    run(&rt, program_io::take_words(&rt, &mut words));
 }

@@ -16,7 +16,7 @@ fn add_text(
     site: u32,
     all: &mut [u32; ALL_ENTRIES],
     said: &mut [u8; SAID_BYTES],
-) -> usize {
+) -> Result<(), usize> {
     let mut name = [0u8; WORD_BYTES];
     let mut area = [0u8; AREA_BYTES];
     let size = program_io::take_argument(rt, argument, &mut name);
@@ -30,54 +30,33 @@ fn add_texts(
     texts: u32,
     all: &mut [u32; ALL_ENTRIES],
     said: &mut [u8; SAID_BYTES],
-) -> usize {
+) -> Result<(), usize> {
     for site in 0..texts {
         let argument = program_study::BEFORE_TEXTS + site as usize;
-        let says = add_text(rt, argument, site, all, said);
-        if says != 0 {
-            return says;
-        }
+        add_text(rt, argument, site, all, said)?;
     }
-    0
+    Ok(())
 }
 
 // Writes a study to the file that an argument names.
-fn write_out(
-    rt: &HostRuntime,
-    name: &[u8],
-    written: &[u8; program_make::WRITTEN_BYTES],
-    size: usize,
-) {
-    program_io::give(
-        rt,
-        &rt.stderr(),
-        b"icustudy",
-        name,
-        b"",
-        program_outcome::front(written, size),
-        true,
-    );
+fn write_out(rt: &HostRuntime, name: &[u8], written: &[u8]) {
+    program_io::give(rt, &rt.stderr(), b"icustudy", name, b"", written, true);
 }
 
 fn write(rt: &HostRuntime, words: &[u8], texts: u32, all: &[u32; ALL_ENTRIES]) {
     let mut written = [0u8; program_make::WRITTEN_BYTES];
     let size = program_make::make(texts, all, &mut written);
-    write_out(rt, program_words::word(words, STUDY), &written, size);
+    let name = program_words::word(words, STUDY);
+    write_out(rt, name, program_outcome::front(&written, size));
 }
 
 fn make(rt: &HostRuntime, words: &[u8], texts: u32) {
     let mut all = [0u32; ALL_ENTRIES];
     let mut said = [0u8; SAID_BYTES];
-    let says = add_texts(rt, texts, &mut all, &mut said);
-    if says != 0 {
-        program_io::say(&rt.stderr(), &said, says);
-        return;
+    match add_texts(rt, texts, &mut all, &mut said) {
+        Ok(()) => write(rt, words, texts, &all),
+        Err(says) => program_io::say(&rt.stderr(), &said, says),
     }
-    write(rt, words, texts, &all);
-}
-
-fn print(rt: &HostRuntime, printed: &[u8; program_study::PRINTED_BYTES], size: usize) {
-    program_io::print(rt, &rt.stderr(), b"icustudy", printed, size);
 }
 
 fn show(rt: &HostRuntime, words: &[u8]) {
@@ -86,8 +65,7 @@ fn show(rt: &HostRuntime, words: &[u8]) {
     let mut said = [0u8; SAID_BYTES];
     let input = program_io::read_named(rt, program_words::word(words, STUDY), &mut area);
     let lengths = program_study::show(input, words, &area, &mut printed, &mut said);
-    print(rt, &printed, lengths.prints);
-    program_io::say(&rt.stderr(), &said, lengths.says);
+    program_io::put_out(rt, &rt.stderr(), b"icustudy", lengths, &printed, &said);
 }
 
 fn convert(rt: &HostRuntime, words: &[u8]) {
@@ -98,15 +76,14 @@ fn convert(rt: &HostRuntime, words: &[u8]) {
     let lengths = program_convert::run(input, words, &area, &mut written, &mut said);
     program_io::say(&rt.stderr(), &said, lengths.says);
     let name = program_words::word(words, program_convert::NEW);
-    write_out(rt, name, &written, lengths.writes);
+    write_out(rt, name, program_outcome::front(&written, lengths.writes));
 }
 
 fn tell(rt: &HostRuntime, job: Job) {
     let mut printed = [0u8; program_study::PRINTED_BYTES];
     let mut said = [0u8; SAID_BYTES];
     let lengths = program_study::tell(job, &mut printed, &mut said);
-    print(rt, &printed, lengths.prints);
-    program_io::say(&rt.stderr(), &said, lengths.says);
+    program_io::put_out(rt, &rt.stderr(), b"icustudy", lengths, &printed, &said);
 }
 
 fn run(rt: &HostRuntime, words: &[u8]) {
@@ -116,16 +93,11 @@ fn run(rt: &HostRuntime, words: &[u8]) {
         Job::Make => make(rt, words, program_study::texts_in(count)),
         Job::Show => show(rt, words),
         Job::Convert => convert(rt, words),
-        Job::Point => tell(rt, job),
-        Job::TooMany => tell(rt, job),
-        Job::Use => tell(rt, job),
-        Job::Help => tell(rt, job),
-        Job::Version => tell(rt, job),
+        Job::Point | Job::TooMany | Job::Use | Job::Help | Job::Version => tell(rt, job),
     }
 }
 
 fn main(rt: HostRuntime) {
     let mut words = [0u8; WORDS_BYTES];
-    let size = program_io::take_words(&rt, &mut words);
-    run(&rt, program_outcome::front(&words, size));
+    run(&rt, program_io::take_words(&rt, &mut words));
 }

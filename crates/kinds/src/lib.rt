@@ -1,14 +1,17 @@
 // The kinds of entries: each is a type that knows its limits and its usual value.
 //
 // A limit is typed here, at its kind, and everything else asks the kind. A value of a kind is made here too: by `new`, of a
-// number that the kind takes, which it keeps as it is, or by `usual`. Each kind has a second field of no content that no other
-// crate can fill, so no other crate makes a value without them; the first is there to be read.
+// number that the kind takes, which it keeps as it is, or by `usual`. What kind a value is of stands in its type alone, in a
+// field of no content that no other crate can fill, so no other crate makes a value without them; the number is there to be read.
 #![tactic(auto)]
 
-ghost use Rattle.std.specs.Prelude.{◌≡◌, true, ◌<◌};
-ghost use Rattle.layout.specs.Entries.{movement_entries, approach_entries, group_count};
-ghost use Rattle.kinds.specs.Kinds.{limits_of, in_range, movement_kind, approach_kind, kind_at, group_at, group_of};
+ghost use Rattle.std.specs.Prelude.{◌≡◌, true};
+ghost use Rattle.kinds.specs.declared.Kind.{Kind};
+ghost use Rattle.kinds.specs.declared.Kind.TheVariants.{Lanes, Volume, IdealFlow, LostTime, MinimumGreen, LaneFactor, SharedLane};
+ghost use Rattle.kinds.specs.declared.Kind.TheVariants.{Pedestrians, PushButton, PedestrianTime, FreeRight, Cycle, Storage, TravelTime};
+ghost use Rattle.kinds.specs.Kinds.{limits_of, in_range, kind_at, group_of};
 
+use std::marker::PhantomData;
 use units::{Ms, Vph};
 
 // From, to, and the value that is usual, which may stand apart from the others.
@@ -19,9 +22,36 @@ pub struct Limits {
     pub usual: u32,
 }
 
+// What stands for a kind in a type.
+pub trait OfKind {
+    const KIND: Kind;
+
+    ghost KIND: { Kind };
+}
+
+// A number of the kind that K stands for, counted in the unit U.
+#[derive_where(Clone, Copy; U)]
+pub struct Quantity<U, K>(pub U, PhantomData<K>);
+
+impl<U: From<u32>, K: OfKind> Quantity<U, K> {
+    pub fn new(value: u32) -> Quantity<U, K>
+        requires { in_range K.KIND value ≡ true }
+        ensures { U.from_gives value result.0 }
+    {
+        Quantity(U::from(value), PhantomData)
+    }
+
+    pub fn usual() -> Quantity<U, K>
+        ensures { U.from_gives (limits_of K.KIND).usual result.0 }
+    {
+        Self::new(K::KIND.limits().usual)
+    }
+}
+
 // Lanes of a movement.
-#[derive(Clone, Copy)]
-pub struct Lanes(pub u32, ());
+pub type Lanes = Quantity<u32, OfLanes>;
+
+pub struct OfLanes;
 
 impl Lanes {
     pub const LIMITS: Limits = Limits {
@@ -29,24 +59,18 @@ impl Lanes {
         most: 6,
         usual: 0,
     };
+}
 
-    pub fn new(value: u32) -> Lanes
-        requires { in_range Kind.Lanes value ≡ true }
-        ensures { result.0 ≡ value }
-    {
-        Lanes(value, ())
-    }
+impl OfKind for OfLanes {
+    const KIND: Kind = Kind::Lanes;
 
-    pub fn usual() -> Lanes
-        ensures { result.0 ≡ (limits_of Kind.Lanes).usual }
-    {
-        Lanes::new(Lanes::LIMITS.usual)
-    }
+    ghost KIND = { Lanes };
 }
 
 // Vehicles per hour of a movement.
-#[derive(Clone, Copy)]
-pub struct Volume(pub Vph, ());
+pub type Volume = Quantity<Vph, OfVolume>;
+
+pub struct OfVolume;
 
 impl Volume {
     pub const LIMITS: Limits = Limits {
@@ -54,24 +78,18 @@ impl Volume {
         most: 9_999,
         usual: 0,
     };
+}
 
-    pub fn new(value: u32) -> Volume
-        requires { in_range Kind.Volume value ≡ true }
-        ensures { result.0.0 ≡ value }
-    {
-        Volume(Vph(value), ())
-    }
+impl OfKind for OfVolume {
+    const KIND: Kind = Kind::Volume;
 
-    pub fn usual() -> Volume
-        ensures { result.0.0 ≡ (limits_of Kind.Volume).usual }
-    {
-        Volume::new(Volume::LIMITS.usual)
-    }
+    ghost KIND = { Volume };
 }
 
 // Ideal flow of one lane of a movement.
-#[derive(Clone, Copy)]
-pub struct IdealFlow(pub Vph, ());
+pub type IdealFlow = Quantity<Vph, OfIdealFlow>;
+
+pub struct OfIdealFlow;
 
 impl IdealFlow {
     pub const LIMITS: Limits = Limits {
@@ -79,24 +97,18 @@ impl IdealFlow {
         most: 2_400,
         usual: 1_900,
     };
+}
 
-    pub fn new(value: u32) -> IdealFlow
-        requires { in_range Kind.IdealFlow value ≡ true }
-        ensures { result.0.0 ≡ value }
-    {
-        IdealFlow(Vph(value), ())
-    }
+impl OfKind for OfIdealFlow {
+    const KIND: Kind = Kind::IdealFlow;
 
-    pub fn usual() -> IdealFlow
-        ensures { result.0.0 ≡ (limits_of Kind.IdealFlow).usual }
-    {
-        IdealFlow::new(IdealFlow::LIMITS.usual)
-    }
+    ghost KIND = { IdealFlow };
 }
 
 // Time that a movement loses as it starts and clears.
-#[derive(Clone, Copy)]
-pub struct LostTime(pub Ms, ());
+pub type LostTime = Quantity<Ms, OfLostTime>;
+
+pub struct OfLostTime;
 
 impl LostTime {
     pub const LIMITS: Limits = Limits {
@@ -104,24 +116,18 @@ impl LostTime {
         most: 20_000,
         usual: 4_000,
     };
+}
 
-    pub fn new(value: u32) -> LostTime
-        requires { in_range Kind.LostTime value ≡ true }
-        ensures { result.0.0 ≡ value }
-    {
-        LostTime(Ms(value), ())
-    }
+impl OfKind for OfLostTime {
+    const KIND: Kind = Kind::LostTime;
 
-    pub fn usual() -> LostTime
-        ensures { result.0.0 ≡ (limits_of Kind.LostTime).usual }
-    {
-        LostTime::new(LostTime::LIMITS.usual)
-    }
+    ghost KIND = { LostTime };
 }
 
 // The least green of a movement.
-#[derive(Clone, Copy)]
-pub struct MinimumGreen(pub Ms, ());
+pub type MinimumGreen = Quantity<Ms, OfMinimumGreen>;
+
+pub struct OfMinimumGreen;
 
 impl MinimumGreen {
     pub const LIMITS: Limits = Limits {
@@ -129,24 +135,18 @@ impl MinimumGreen {
         most: 60_000,
         usual: 4_000,
     };
+}
 
-    pub fn new(value: u32) -> MinimumGreen
-        requires { in_range Kind.MinimumGreen value ≡ true }
-        ensures { result.0.0 ≡ value }
-    {
-        MinimumGreen(Ms(value), ())
-    }
+impl OfKind for OfMinimumGreen {
+    const KIND: Kind = Kind::MinimumGreen;
 
-    pub fn usual() -> MinimumGreen
-        ensures { result.0.0 ≡ (limits_of Kind.MinimumGreen).usual }
-    {
-        MinimumGreen::new(MinimumGreen::LIMITS.usual)
-    }
+    ghost KIND = { MinimumGreen };
 }
 
 // What the lanes of a movement carry of one lane each, as it was measured, in thousandths; 0, the usual value, for the table's.
-#[derive(Clone, Copy)]
-pub struct LaneFactor(pub u32, ());
+pub type LaneFactor = Quantity<u32, OfLaneFactor>;
+
+pub struct OfLaneFactor;
 
 impl LaneFactor {
     pub const LIMITS: Limits = Limits {
@@ -154,24 +154,18 @@ impl LaneFactor {
         most: 1_000,
         usual: 0,
     };
+}
 
-    pub fn new(value: u32) -> LaneFactor
-        requires { in_range Kind.LaneFactor value ≡ true }
-        ensures { result.0 ≡ value }
-    {
-        LaneFactor(value, ())
-    }
+impl OfKind for OfLaneFactor {
+    const KIND: Kind = Kind::LaneFactor;
 
-    pub fn usual() -> LaneFactor
-        ensures { result.0 ≡ (limits_of Kind.LaneFactor).usual }
-    {
-        LaneFactor::new(LaneFactor::LIMITS.usual)
-    }
+    ghost KIND = { LaneFactor };
 }
 
 // 1 where the approach has a lane shared by left and through.
-#[derive(Clone, Copy)]
-pub struct SharedLane(pub u32, ());
+pub type SharedLane = Quantity<u32, OfSharedLane>;
+
+pub struct OfSharedLane;
 
 impl SharedLane {
     pub const LIMITS: Limits = Limits {
@@ -179,24 +173,18 @@ impl SharedLane {
         most: 1,
         usual: 0,
     };
+}
 
-    pub fn new(value: u32) -> SharedLane
-        requires { in_range Kind.SharedLane value ≡ true }
-        ensures { result.0 ≡ value }
-    {
-        SharedLane(value, ())
-    }
+impl OfKind for OfSharedLane {
+    const KIND: Kind = Kind::SharedLane;
 
-    pub fn usual() -> SharedLane
-        ensures { result.0 ≡ (limits_of Kind.SharedLane).usual }
-    {
-        SharedLane::new(SharedLane::LIMITS.usual)
-    }
+    ghost KIND = { SharedLane };
 }
 
 // Pedestrians per hour who cross with the approach's through.
-#[derive(Clone, Copy)]
-pub struct Pedestrians(pub u32, ());
+pub type Pedestrians = Quantity<u32, OfPedestrians>;
+
+pub struct OfPedestrians;
 
 impl Pedestrians {
     pub const LIMITS: Limits = Limits {
@@ -204,24 +192,18 @@ impl Pedestrians {
         most: 2_000,
         usual: 0,
     };
+}
 
-    pub fn new(value: u32) -> Pedestrians
-        requires { in_range Kind.Pedestrians value ≡ true }
-        ensures { result.0 ≡ value }
-    {
-        Pedestrians(value, ())
-    }
+impl OfKind for OfPedestrians {
+    const KIND: Kind = Kind::Pedestrians;
 
-    pub fn usual() -> Pedestrians
-        ensures { result.0 ≡ (limits_of Kind.Pedestrians).usual }
-    {
-        Pedestrians::new(Pedestrians::LIMITS.usual)
-    }
+    ghost KIND = { Pedestrians };
 }
 
 // 1 where those pedestrians have a button.
-#[derive(Clone, Copy)]
-pub struct PushButton(pub u32, ());
+pub type PushButton = Quantity<u32, OfPushButton>;
+
+pub struct OfPushButton;
 
 impl PushButton {
     pub const LIMITS: Limits = Limits {
@@ -229,24 +211,18 @@ impl PushButton {
         most: 1,
         usual: 0,
     };
+}
 
-    pub fn new(value: u32) -> PushButton
-        requires { in_range Kind.PushButton value ≡ true }
-        ensures { result.0 ≡ value }
-    {
-        PushButton(value, ())
-    }
+impl OfKind for OfPushButton {
+    const KIND: Kind = Kind::PushButton;
 
-    pub fn usual() -> PushButton
-        ensures { result.0 ≡ (limits_of Kind.PushButton).usual }
-    {
-        PushButton::new(PushButton::LIMITS.usual)
-    }
+    ghost KIND = { PushButton };
 }
 
 // Time that those pedestrians take to cross.
-#[derive(Clone, Copy)]
-pub struct PedestrianTime(pub Ms, ());
+pub type PedestrianTime = Quantity<Ms, OfPedestrianTime>;
+
+pub struct OfPedestrianTime;
 
 impl PedestrianTime {
     pub const LIMITS: Limits = Limits {
@@ -254,24 +230,18 @@ impl PedestrianTime {
         most: 60_000,
         usual: 0,
     };
+}
 
-    pub fn new(value: u32) -> PedestrianTime
-        requires { in_range Kind.PedestrianTime value ≡ true }
-        ensures { result.0.0 ≡ value }
-    {
-        PedestrianTime(Ms(value), ())
-    }
+impl OfKind for OfPedestrianTime {
+    const KIND: Kind = Kind::PedestrianTime;
 
-    pub fn usual() -> PedestrianTime
-        ensures { result.0.0 ≡ (limits_of Kind.PedestrianTime).usual }
-    {
-        PedestrianTime::new(PedestrianTime::LIMITS.usual)
-    }
+    ghost KIND = { PedestrianTime };
 }
 
 // 1 where the right turn leaves into a lane of its own.
-#[derive(Clone, Copy)]
-pub struct FreeRight(pub u32, ());
+pub type FreeRight = Quantity<u32, OfFreeRight>;
+
+pub struct OfFreeRight;
 
 impl FreeRight {
     pub const LIMITS: Limits = Limits {
@@ -279,24 +249,18 @@ impl FreeRight {
         most: 1,
         usual: 0,
     };
+}
 
-    pub fn new(value: u32) -> FreeRight
-        requires { in_range Kind.FreeRight value ≡ true }
-        ensures { result.0 ≡ value }
-    {
-        FreeRight(value, ())
-    }
+impl OfKind for OfFreeRight {
+    const KIND: Kind = Kind::FreeRight;
 
-    pub fn usual() -> FreeRight
-        ensures { result.0 ≡ (limits_of Kind.FreeRight).usual }
-    {
-        FreeRight::new(FreeRight::LIMITS.usual)
-    }
+    ghost KIND = { FreeRight };
 }
 
 // The reference cycle, in seconds.
-#[derive(Clone, Copy)]
-pub struct Cycle(pub u32, ());
+pub type Cycle = Quantity<u32, OfCycle>;
+
+pub struct OfCycle;
 
 impl Cycle {
     pub const LIMITS: Limits = Limits {
@@ -304,24 +268,18 @@ impl Cycle {
         most: 240,
         usual: 120,
     };
+}
 
-    pub fn new(value: u32) -> Cycle
-        requires { in_range Kind.Cycle value ≡ true }
-        ensures { result.0 ≡ value }
-    {
-        Cycle(value, ())
-    }
+impl OfKind for OfCycle {
+    const KIND: Kind = Kind::Cycle;
 
-    pub fn usual() -> Cycle
-        ensures { result.0 ≡ (limits_of Kind.Cycle).usual }
-    {
-        Cycle::new(Cycle::LIMITS.usual)
-    }
+    ghost KIND = { Cycle };
 }
 
 // Vehicles that find room between the junctions of a diamond. None is usual: the least stands for it.
-#[derive(Clone, Copy)]
-pub struct Storage(pub u32, ());
+pub type Storage = Quantity<u32, OfStorage>;
+
+pub struct OfStorage;
 
 impl Storage {
     pub const LIMITS: Limits = Limits {
@@ -329,24 +287,18 @@ impl Storage {
         most: 999,
         usual: 1,
     };
+}
 
-    pub fn new(value: u32) -> Storage
-        requires { in_range Kind.Storage value ≡ true }
-        ensures { result.0 ≡ value }
-    {
-        Storage(value, ())
-    }
+impl OfKind for OfStorage {
+    const KIND: Kind = Kind::Storage;
 
-    pub fn usual() -> Storage
-        ensures { result.0 ≡ (limits_of Kind.Storage).usual }
-    {
-        Storage::new(Storage::LIMITS.usual)
-    }
+    ghost KIND = { Storage };
 }
 
 // Time that a vehicle takes from one junction of a diamond to the other.
-#[derive(Clone, Copy)]
-pub struct TravelTime(pub Ms, ());
+pub type TravelTime = Quantity<Ms, OfTravelTime>;
+
+pub struct OfTravelTime;
 
 impl TravelTime {
     pub const LIMITS: Limits = Limits {
@@ -354,22 +306,15 @@ impl TravelTime {
         most: 60_000,
         usual: 0,
     };
-
-    pub fn new(value: u32) -> TravelTime
-        requires { in_range Kind.TravelTime value ≡ true }
-        ensures { result.0.0 ≡ value }
-    {
-        TravelTime(Ms(value), ())
-    }
-
-    pub fn usual() -> TravelTime
-        ensures { result.0.0 ≡ (limits_of Kind.TravelTime).usual }
-    {
-        TravelTime::new(TravelTime::LIMITS.usual)
-    }
 }
 
-#[derive(Clone, Copy)]
+impl OfKind for OfTravelTime {
+    const KIND: Kind = Kind::TravelTime;
+
+    ghost KIND = { TravelTime };
+}
+
+#[derive(Clone, Copy, PartialEq, Eq, Debug)]
 pub enum Kind {
     Lanes,
     Volume,
@@ -387,7 +332,26 @@ pub enum Kind {
     TravelTime,
 }
 
+// The kinds of a movement's entries, and of an approach's own, by their places among them.
+const OF_MOVEMENT: [Kind; layout::MOVEMENT_ENTRIES] = [
+    Kind::Lanes,
+    Kind::Volume,
+    Kind::IdealFlow,
+    Kind::LostTime,
+    Kind::MinimumGreen,
+    Kind::LaneFactor,
+];
+
+const OF_APPROACH: [Kind; layout::APPROACH_ENTRIES] = [
+    Kind::SharedLane,
+    Kind::Pedestrians,
+    Kind::PushButton,
+    Kind::PedestrianTime,
+    Kind::FreeRight,
+];
+
 impl Kind {
+    // The one place where a kind meets its type.
     pub fn limits(self) -> Limits
         ensures { (result.least ≡ (limits_of self).least) × (result.most ≡ (limits_of self).most) × (result.usual ≡ (limits_of self).usual) }
     {
@@ -413,51 +377,7 @@ impl Kind {
     pub fn usual(self) -> u32
         ensures { result ≡ (limits_of self).usual }
     {
-        match self {
-            Kind::Lanes => Lanes::usual().0,
-            Kind::Volume => Volume::usual().0.0,
-            Kind::IdealFlow => IdealFlow::usual().0.0,
-            Kind::LostTime => LostTime::usual().0.0,
-            Kind::MinimumGreen => MinimumGreen::usual().0.0,
-            Kind::LaneFactor => LaneFactor::usual().0,
-            Kind::SharedLane => SharedLane::usual().0,
-            Kind::Pedestrians => Pedestrians::usual().0,
-            Kind::PushButton => PushButton::usual().0,
-            Kind::PedestrianTime => PedestrianTime::usual().0.0,
-            Kind::FreeRight => FreeRight::usual().0,
-            Kind::Cycle => Cycle::usual().0,
-            Kind::Storage => Storage::usual().0,
-            Kind::TravelTime => TravelTime::usual().0.0,
-        }
-    }
-
-    // The kind of a movement's entry, by its place among the movement's own.
-    fn of_movement(place: usize) -> Kind
-        requires { place < movement_entries }
-        ensures { result ≡ movement_kind place }
-    {
-        match place {
-            0 => Kind::Lanes,
-            1 => Kind::Volume,
-            2 => Kind::IdealFlow,
-            3 => Kind::LostTime,
-            4 => Kind::MinimumGreen,
-            _ => Kind::LaneFactor,
-        }
-    }
-
-    // The kind of an approach's own entry, by its place among them.
-    fn of_approach(place: usize) -> Kind
-        requires { place < approach_entries }
-        ensures { result ≡ approach_kind place }
-    {
-        match place {
-            0 => Kind::SharedLane,
-            1 => Kind::Pedestrians,
-            2 => Kind::PushButton,
-            3 => Kind::PedestrianTime,
-            _ => Kind::FreeRight,
-        }
+        self.limits().usual
     }
 
     // The kind that stands at an entry's place.
@@ -465,10 +385,10 @@ impl Kind {
         ensures { result ≡ kind_at entry }
     {
         if entry < layout::APPROACHES_FROM {
-            return Kind::of_movement(entry % layout::MOVEMENT_ENTRIES);
+            return OF_MOVEMENT[entry % layout::MOVEMENT_ENTRIES];
         }
         if entry < layout::CYCLE_ENTRY {
-            return Kind::of_approach((entry - layout::APPROACHES_FROM) % layout::APPROACH_ENTRIES);
+            return OF_APPROACH[(entry - layout::APPROACHES_FROM) % layout::APPROACH_ENTRIES];
         }
         Kind::Cycle
     }
@@ -489,29 +409,20 @@ impl Kind {
 }
 
 // The three movements of an approach.
-#[derive(Clone, Copy)]
+#[derive(Clone, Copy, PartialEq, Eq, Debug)]
 pub enum Group {
     Left,
     Through,
     Right,
 }
 
-impl Group {
-    fn at(place: usize) -> Group
-        requires { place < group_count }
-        ensures { result ≡ group_at place }
-    {
-        match place {
-            0 => Group::Left,
-            1 => Group::Through,
-            _ => Group::Right,
-        }
-    }
+const GROUPS: [Group; layout::GROUPS] = [Group::Left, Group::Through, Group::Right];
 
+impl Group {
     // The group of a movement.
     pub fn of(movement: usize) -> Group
         ensures { result ≡ group_of movement }
     {
-        Group::at(movement % layout::GROUPS)
+        GROUPS[movement % layout::GROUPS]
     }
 }

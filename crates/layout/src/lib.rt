@@ -4,8 +4,9 @@
 // against the definition.
 #![tactic(auto)]
 
-ghost use Rattle.std.specs.Prelude.{◌≡◌};
-ghost use Rattle.layout.specs.Sheet.{line_count, pair_cells, pairs_from, last_from, sheet_count, beside_numbers};
+ghost use Rattle.std.specs.Prelude.{◌≡◌, ◌/◌, ◌<◌};
+ghost use Rattle.layout.specs.Entries.{approach_count};
+ghost use Rattle.layout.specs.Sheet.{line_count, lines_of, pair_cells, in_pair, pairs_from, pair_of, last_from, sheet_count, beside_numbers};
 
 // EB, WB, NB, SB.
 pub const APPROACHES: usize = 4;
@@ -59,7 +60,7 @@ pub const CYCLE_ENTRY: usize = APPROACHES_FROM + APPROACH_ENTRIES * APPROACHES;
 pub const ENTRIES: usize = CYCLE_ENTRY + 1;
 
 // A sheet's kind: the book's two worksheets with entries of their own.
-#[derive(Clone, Copy)]
+#[derive(Clone, Copy, PartialEq, Eq, Debug)]
 pub enum Worksheet {
     Junction,
     // a single point interchange, protected phasing only
@@ -116,6 +117,7 @@ const POINT_LAST_FROM: usize = POINT_PAIRS_FROM + POINT_PAIR_CELLS * PAIRS;
 
 pub const POINT_CELLS: usize = POINT_LAST_FROM + LAST_CELLS;
 
+// One match for each number: a struct of six by kind would name the same twelve constants, and hide each behind a field.
 impl Worksheet {
     // The lines of an approach.
     pub fn lines(self) -> usize
@@ -153,6 +155,22 @@ impl Worksheet {
             Worksheet::Junction => PAIRS_FROM,
             Worksheet::Point => POINT_PAIRS_FROM,
         }
+    }
+
+    // The cell of an approach's first line.
+    pub fn lines_of(self, approach: usize) -> usize
+        requires { approach < approach_count }
+        ensures { result ≡ lines_of self approach }
+    {
+        LINES_FROM + self.lines() * approach
+    }
+
+    // The first cell of an approach's pair.
+    pub fn pair_of(self, approach: usize) -> usize
+        requires { approach < approach_count }
+        ensures { result ≡ pair_of self (approach / in_pair) }
+    {
+        self.pairs_from() + self.pair_cells() * (approach / IN_PAIR)
     }
 
     // The first of the last cells.

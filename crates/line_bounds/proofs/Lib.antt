@@ -1,4 +1,5 @@
 pub mod Numbers
+pub mod Order
 pub mod Flows
 pub mod Times
 pub mod LeftLane

@@ -182,7 +182,7 @@ pub record Refused (s o : Approach) (CL : ℕ) : Type 0 where
   pub weighted : line26 s o CL ≡ BLANK → (allowed_a s o ≡ false) × (allowed_b o ≡ false)
 
 module _ (s : Approach) (CL : ℕ) (fair : Fair s) (cycle : FairCycle CL) where
-  option_b_most : option_b s CL ≤ most_option
+  pub option_b_most : option_b s CL ≤ most_option
   unfolding option_b through_b
   option_b_most =
       let straight = passes_most (straight_passes s CL fair cycle) in
@@ -203,7 +203,7 @@ module _ (s : Approach) (CL : ℕ) (fair : Fair s) (cycle : FairCycle CL) where
         (carries (up (volume s Left) (n s Left)) (flow s Left) whole (left_share o) CL (n s Left) few served.most (omega arith)
         (share_within o) cycle lanes served.least).serves
 
-    option_a_most : option_a s o CL ≤ most_option
+    pub option_a_most : option_a s o CL ≤ most_option
     unfolding option_a
     option_a_most =
         let lane = carried s o CL fair cycle in

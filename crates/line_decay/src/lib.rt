@@ -41,15 +41,13 @@ fn series(r: u32) -> u32
 {
     let mut term = WHOLE;
     let mut sum = WHOLE;
-    let mut j: u32 = 0;
-    while j < PAIRS {
+    for j in 0..PAIRS {
         if ended(r, j) {
             return sum;
         }
         let odd = next_term(term, r, 2 * j);
         term = next_term(odd, r, 2 * j + 1);
         sum = sum - odd + term;
-        j += 1;
     }
     sum
 }
@@ -71,10 +69,8 @@ pub fn decay_number(m: u64) -> u64
     }
     let c = m / FOLD;
     let mut d = series((m % FOLD) as u32);
-    let mut i: u64 = 0;
-    while i < c {
+    for _ in 0..c {
         d = fade(d);
-        i += 1;
     }
     d as u64
 }

@@ -1,12 +1,10 @@
 // The lane factors, in thousandths: the table's, and those that were measured.
 #![tactic(auto)]
 
-ghost use Rattle.std.specs.Prelude.{◌≡◌, ◌<◌, ◌≤◌};
-ghost use Rattle.layout.specs.Entries.{group_count};
+ghost use Rattle.std.specs.Prelude.{◌≡◌, ◌≤◌};
 ghost use Rattle.kinds.specs.declared.Kind.TheVariants.{Lanes as LaneKind, LaneFactor as FactorKind};
 ghost use Rattle.kinds.specs.Working.{most_of};
 ghost use Rattle.line_factors.specs.Factors.{lane_factor, factor_of};
-ghost use Rattle.line_factors.specs.Working.{row_of};
 
 use kinds::{Group, LaneFactor, Lanes};
 
@@ -18,22 +16,12 @@ const TABLE: [u32; layout::GROUPS * MOST_LANES] = [
     1_000, 971, 971, 971, 971, 971, 1_000, 952, 908, 908, 908, 908, 1_000, 885, 885, 885, 885, 885,
 ];
 
-fn row_of(group: Group) -> usize
-    ensures { (result ≡ row_of group) × (result < group_count) }
-{
-    match group {
-        Group::Left => 0,
-        Group::Through => 1,
-        Group::Right => 2,
-    }
-}
-
 // The table's factor of a group with that many lanes.
 fn lane_factor(group: Group, lanes: u32) -> u32
     requires { (1 ≤ lanes) × (lanes ≤ most_of LaneKind) }
     ensures { (result ≡ lane_factor group lanes) × (result ≤ most_of FactorKind) }
 {
-    TABLE[MOST_LANES * row_of(group) + (lanes - 1) as usize]
+    TABLE[MOST_LANES * group as usize + (lanes - 1) as usize]
 }
 
 // The factor of a group's lanes: the one that was measured, or where none was, the table's.

@@ -26,12 +26,6 @@ const LEFT: u32 = 9_500;
 // Where all turn right.
 const RIGHT: u32 = 8_500;
 
-fn choose(first: bool, a: Vph, b: Vph) -> Vph
-    ensures { result.0 ≡ cond first a.0 b.0 }
-{
-    if first { a } else { b }
-}
-
 // Lines 1–3: without a lane of its own a right turn counts as through, and so does a left turn from a shared lane.
 pub fn volumes_of(s: Approach) -> Volumes
     requires { Fair s }
@@ -39,13 +33,13 @@ pub fn volumes_of(s: Approach) -> Volumes
 {
     let shared = s.shared.0 == 1;
     let laneless = s.right.lanes.0 == 0;
-    let foldedleft = choose(shared, s.left.volume.0, Vph(0));
-    let foldedright = choose(laneless, s.right.volume.0, Vph(0));
+    let foldedleft = if shared { s.left.volume.0 } else { Vph(0) };
+    let foldedright = if laneless { s.right.volume.0 } else { Vph(0) };
     let through = Vph(s.through.volume.0.0 + foldedleft.0 + foldedright.0);
     Volumes {
-        left: choose(shared, Vph(0), s.left.volume.0),
+        left: if shared { Vph(0) } else { s.left.volume.0 },
         through,
-        right: choose(laneless, Vph(0), s.right.volume.0),
+        right: if laneless { Vph(0) } else { s.right.volume.0 },
         foldedright,
         foldedleft,
         straight: Vph(through.0 - foldedleft.0),

@@ -1,7 +1,7 @@
 // Formulas that several lines share: a time from a volume and its flow, and the two ways in which a time is adjusted.
 #![tactic(auto)]
 
-ghost use Rattle.std.specs.Prelude.{◌≡◌, ◌*◌, ◌+◌, ◌≤◌, max};
+ghost use Rattle.std.specs.Prelude.{◌≡◌, ◌*◌, ◌+◌, ◌≤◌};
 ghost use Rattle.units.specs.Unit.{flow_unit, whole};
 ghost use Rattle.kinds.specs.declared.Kind.TheVariants.{LostTime, MinimumGreen, Cycle as CycleKind};
 ghost use Rattle.kinds.specs.Working.{most_of};
@@ -16,9 +16,6 @@ use units::{Flow, Ms, Vph};
 
 // Milliseconds of a second, times the parts of a flow that make a vehicle per hour.
 const TIME_SCALE: u64 = 1000 * units::FLOW_UNIT;
-
-// A whole, in products of 64 bits.
-const WHOLE: u64 = units::WHOLE as u64;
 
 // 10,000·v·CL over a flow in tenths, up; the flow carries at least a small part of the volume.
 pub fn time_for(volume: Vph, cycle: Cycle, flow: Flow) -> Ms
@@ -42,19 +39,12 @@ pub fn part_time(volume: Vph, cycle: Cycle, flow: Flow, held: Ms) -> Ms
     Ms(time_for(volume, cycle, flow).0 + held.0)
 }
 
-// The larger of two times.
-pub fn larger(a: Ms, b: Ms) -> Ms
-    ensures { result.0 ≡ max a.0 b.0 }
-{
-    if a.0 <= b.0 { b } else { a }
-}
-
 // Lost time, and the larger of the minimum and the reference time.
 pub fn adjust(lost: Ms, minimum: Ms, reference: Ms) -> Ms
     requires { (lost.0 ≤ most_of LostTime) × (minimum.0 ≤ most_of MinimumGreen) × (reference.0 ≤ most_reference) }
     ensures { result.0 ≡ adjusted_of lost.0 minimum.0 reference.0 }
 {
-    Ms(lost.0 + larger(minimum, reference).0)
+    Ms(lost.0 + minimum.max(reference).0)
 }
 
 // The same of an approach's through, with the time that walkers need, weighted by how often they come.
@@ -62,9 +52,9 @@ pub fn weigh(s: Approach, frequency: u32, reference: Ms) -> Ms
     requires { Fair s × (frequency ≤ whole) × (reference.0 ≤ most_option) }
     ensures { result.0 ≡ weighed_by s frequency reference.0 }
 {
-    let a = larger(s.through.green.0, reference);
-    let b = larger(a, s.crossing.0);
-    let walking = units::divide_up((b.0 - a.0) as u64 * frequency as u64, WHOLE);
+    let a = s.through.green.0.max(reference);
+    let b = a.max(s.crossing.0);
+    let walking = units::divide_up((b.0 - a.0) as u64 * frequency as u64, units::WHOLE as u64);
     Ms(s.through.lost.0.0 + a.0 + walking as u32)
 }
 
@@ -72,10 +62,7 @@ pub fn weigh(s: Approach, frequency: u32, reference: Ms) -> Ms
 fn is_crossed(s: Approach) -> bool
     ensures { result ≡ crossed s }
 {
-    if s.through.lanes.0 == 0 {
-        return false;
-    }
-    0 < s.walkers.0
+    0 < s.through.lanes.0 && 0 < s.walkers.0
 }
 
 // Where nobody drives: the time of those who cross, weighed as any other from a reference time of 0.

@@ -9,7 +9,8 @@ ghost use Rattle.line_stages.specs.Stages.{volumes_of, meeting_of};
 use line_stages::{Meeting, Volumes};
 use procedure::Approach;
 
-// Whether one shared lane, with lefts in it, is all that the approach has.
+// Whether one shared lane, with lefts in it, is all that the approach has. One test after the other: as one expression all five are
+// worked out each time, which makes a fill slower.
 fn is_single(o: Approach) -> bool
     ensures { result ≡ single o }
 {
@@ -43,10 +44,7 @@ fn left_share(o: Approach, w: Volumes) -> u32
 fn is_a_allowed(s: Approach, o: Approach) -> bool
     ensures { result ≡ allowed_a s o }
 {
-    if s.left.volume.0.0 < 60 {
-        return true;
-    }
-    is_single(o)
+    s.left.volume.0.0 < 60 || is_single(o)
 }
 
 // What the oncoming approach, of volumes w, does to this one.

@@ -1,24 +1,20 @@
 // Lines 23–26: lefts that find their way through oncoming traffic.
 #![tactic(auto)]
 
-ghost use Rattle.std.specs.Prelude.{◌≡◌, cond, ◌+◌, ◌*◌, ◌≤◌, ◌<◌, eqb};
+ghost use Rattle.std.specs.Prelude.{◌≡◌, cond, ◌+◌, ◌*◌, ◌≤◌, ◌<◌, IfSome};
 ghost use Rattle.units.specs.Rounding.{up};
 ghost use Rattle.units.specs.Unit.{flow_unit, whole};
-ghost use Rattle.layout.specs.Sheet.{BLANK};
 ghost use Rattle.procedure.specs.Ranges.{Fair, FairCycle};
 ghost use Rattle.procedure.specs.Lines.{part, time, allowed_a, empty, equivalent, flow_a, option_a_of, option_a};
-ghost use Rattle.procedure.specs.Lines.{s_b, waiting, through_b, option_b, lesser};
-ghost use Rattle.line_bounds.specs.Bounds.{most_volume, least_lane_flow, most_held, most_mixed, most_mixed_served, most_option, Passes, Timely};
-ghost use Rattle.line_formulas.specs.Working.{weighed_by};
-ghost use Rattle.line_stages.specs.Stages.{volumes_of, flows_of, first_of, meeting_of, left_lane_of, permitted_of};
+ghost use Rattle.procedure.specs.Lines.{s_b, waiting, through_b, option_b};
+ghost use Rattle.line_bounds.specs.Bounds.{most_volume, least_lane_flow, most_held, most_mixed, most_mixed_served, most_option, Passes};
+ghost use Rattle.line_stages.specs.Stages.{ms, volumes_of, flows_of, first_of, meeting_of, left_lane_of, permitted_of};
+ghost use Rattle.line_permitted.specs.Options.{cell, lesser_time, weighed_time};
 
 use kinds::{Cycle, Lanes};
 use line_stages::{First, Flows, LeftLane, Meeting, Permitted, Volumes};
 use procedure::Approach;
 use units::{Flow, Ms, Vph};
-
-// Where an option is not allowed.
-const NOT_ALLOWED: Ms = Ms(layout::BLANK);
 
 // What line 24 starts with, in milliseconds: the time in which the lanes beside a waiting left move.
 const WAITING: u32 = 8_000;
@@ -37,7 +33,7 @@ fn option_a_of(lane: Vph, mixed: Flow, volume: Vph, flow: Flow, held: Ms, cycle:
     if volume.0 as u64 * mixed.0 as u64 <= lane.0 as u64 * flow.0 as u64 {
         return delayed;
     }
-    line_formulas::larger(delayed, line_formulas::time_for(volume, cycle, flow))
+    delayed.max(line_formulas::time_for(volume, cycle, flow))
 }
 
 // The L value of line 23: every car of the lane turns left.
@@ -62,12 +58,19 @@ fn left_option_a(volume: Vph, lanes: Lanes, flow: Flow, oncoming: u32, cycle: Cy
 }
 
 // Line 23 of an approach that has volume, worked out only where it is allowed.
-fn option_a(s: Approach, o: Approach, x: First, m: Meeting, lane: LeftLane, cycle: Cycle) -> Ms
+fn option_a(
+    s: Approach,
+    o: Approach,
+    x: First,
+    m: Meeting,
+    lane: LeftLane,
+    cycle: Cycle,
+) -> Option<Ms>
     requires { Fair s × (x ≡ first_of s cycle.0) × (m ≡ meeting_of s o) × (lane ≡ left_lane_of s o cycle.0) × FairCycle cycle.0 }
-    ensures { result.0 ≡ cond (allowed_a s o) (option_a s o cycle.0) BLANK }
+    ensures { result ≡ cond (allowed_a s o) (Some (ms (option_a s o cycle.0))) None }
 {
     if !m.alloweda {
-        return NOT_ALLOWED;
+        return None;
     }
     let through = option_a_of(
         lane.heaviest,
@@ -78,7 +81,7 @@ fn option_a(s: Approach, o: Approach, x: First, m: Meeting, lane: LeftLane, cycl
         cycle,
     );
     let left = left_option_a(x.volumes.left, s.left.lanes, x.flows.left, m.share, cycle);
-    line_formulas::larger(through, left)
+    Some(through.max(left))
 }
 
 // Flow of the through lanes while a left waits in the shared one.
@@ -117,12 +120,12 @@ fn left_b(lefts: Vph, flow: Flow, cycle: Cycle) -> Ms
 }
 
 // Line 24 of an approach that has volume, worked out only where it is allowed.
-fn option_b(allowed: bool, s: Approach, x: First, cycle: Cycle) -> Ms
+fn option_b(allowed: bool, s: Approach, x: First, cycle: Cycle) -> Option<Ms>
     requires { Fair s × (x ≡ first_of s cycle.0) × FairCycle cycle.0 }
-    ensures { result.0 ≡ cond allowed (option_b s cycle.0) BLANK }
+    ensures { result ≡ cond allowed (Some (ms (option_b s cycle.0))) None }
 {
     if !allowed {
-        return NOT_ALLOWED;
+        return None;
     }
     let through = through_b(
         x.volumes.straight,
@@ -131,41 +134,40 @@ fn option_b(allowed: bool, s: Approach, x: First, cycle: Cycle) -> Ms
         x.walking.through,
         cycle,
     );
-    line_formulas::larger(through, left_b(s.left.volume.0, x.flows.lefts, cycle))
+    Some(through.max(left_b(s.left.volume.0, x.flows.lefts, cycle)))
 }
 
 fn is_empty(s: Approach, v: Volumes) -> bool
     requires { v ≡ volumes_of s }
     ensures { result ≡ empty s }
 {
-    if v.left.0 != 0 {
-        return false;
-    }
-    v.through.0 == 0
+    v.left.0 == 0 && v.through.0 == 0
 }
 
 // Line 25.
-fn lesser_of(a: Ms, b: Ms) -> Ms
-    ensures { result.0 ≡ lesser a.0 b.0 }
+fn lesser_of(a: Option<Ms>, b: Option<Ms>) -> Option<Ms>
+    ensures { result ≡ lesser_time a b }
 {
-    if a.0 == NOT_ALLOWED.0 {
-        return b;
+    match (a, b) {
+        (Some(a), Some(b)) => Some(a.min(b)),
+        (None, b) => b,
+        (a, None) => a,
     }
-    if b.0 == NOT_ALLOWED.0 {
-        return a;
-    }
-    if a.0 <= b.0 { a } else { b }
 }
 
 // Line 26 of an approach that has volume.
-fn weigh_if_allowed(s: Approach, frequency: u32, reference: Ms) -> Ms
-    requires { Fair s × (frequency ≤ whole) × Timely most_option reference.0 }
-    ensures { result.0 ≡ cond (eqb reference.0 BLANK) BLANK (weighed_by s frequency reference.0) }
+fn weigh_if_allowed(s: Approach, frequency: u32, reference: Option<Ms>) -> Option<Ms>
+    requires { Fair s × (frequency ≤ whole) × IfSome reference (λ time. time.0 ≤ most_option) }
+    ensures { result ≡ weighed_time s frequency reference }
 {
-    if reference.0 == NOT_ALLOWED.0 {
-        return NOT_ALLOWED;
-    }
-    line_formulas::weigh(s, frequency, reference)
+    Some(line_formulas::weigh(s, frequency, reference?))
+}
+
+// As the cell holds it.
+fn cell(time: Option<Ms>) -> Ms
+    ensures { result.0 ≡ cell time }
+{
+    time.unwrap_or(Ms(layout::BLANK))
 }
 
 // Lines 23–26.
@@ -193,9 +195,9 @@ pub fn permitted_of(
     let lesser = lesser_of(a, b);
     let weighted = weigh_if_allowed(s, x.walking.frequency, lesser);
     Permitted {
-        a,
-        b,
-        lesser,
-        weighted,
+        a: cell(a),
+        b: cell(b),
+        lesser: cell(lesser),
+        weighted: cell(weighted),
     }
 }

@@ -17,7 +17,7 @@ fn largest_of(s: Approach, x: First, cycle: Cycle) -> Ms
     ensures { result.0 ≡ line27 s cycle.0 }
 {
     if x.volumes.foldedleft.0 == 0 {
-        return line_formulas::larger(x.times.through, x.times.left);
+        return x.times.through.max(x.times.left);
     }
     let straight = line_formulas::part_time(
         x.volumes.straight,
@@ -26,7 +26,7 @@ fn largest_of(s: Approach, x: First, cycle: Cycle) -> Ms
         x.walking.through,
     );
     let lefts = line_formulas::part_time(s.left.volume.0, cycle, x.flows.lefts, Ms(0));
-    line_formulas::larger(x.times.through, line_formulas::larger(straight, lefts))
+    x.times.through.max(straight.max(lefts))
 }
 
 // Lines 27 and 28; where nobody drives line 28 is for those who cross.

@@ -1,11 +1,12 @@
 -- Laws of tables, and of a part put over a list, whole or cell by cell.
-use Prim.Native.Nat.{ℕ, zero, suc, ◌+◌, ◌<◌, ◌≤◌}
+use Prim.Native.Nat.{ℕ, zero, suc, ◌+◌, ◌-◌, ◌<◌, ◌≤◌}
 use mathlib.Core.Path.{◌≡◌, refl, sym, ap, ◌∙◌}
 use mathlib.Core.Logic.{⊎_elim}
 use mathlib.Core.List.{List, [], ◌∷◌, ◌++◌, append_assoc, append-nil}
+use borrow.Rule.Slice.PartMut.{put_mid}
 use lib.ListN.{length, get_or, take, drop, set, length-append, length-drop, take-append-drop, drop_of_length-le, get_or-append}
 use lib.Seq.{length-take-le, take-suc, take-length, drop-drop, drop-append-add, get_or-append-add, take_at, drop-cons, drop-length, set_at, set_split}
-use native.Mathlib.Nat.{add-zero, add-suc, eq-or-lt_of_le}
+use native.Mathlib.Nat.{add-zero, add-suc, add-sub_cancel_left, eq-or-lt_of_le}
 use native.Mathlib.Numerals.{add-one}
 use native.Mathlib.Omega.{arith}
 use Rattle.lists.specs.Lists.{table, over}
@@ -46,6 +47,11 @@ over_next list at n first second e h =
 pub front_over : (list part : List ℕ) (n : ℕ) → length part ≡ n → take n (over list 0 part) ≡ part
 unfolding over
 front_over list part n e = take_at part (drop (0 + length part) list) n e
+
+-- a part copied over a part of a list at once
+pub put_over : (list part : List ℕ) (at : ℕ) → put_mid at (at + length part - at) list part ≡ over list at part
+unfolding over
+put_over list part at = rw (add-sub_cancel_left at (length part), drop-drop (length part) at list, append_assoc (take at list) part)
 
 -- ---- copied cell by cell
 

@@ -9,9 +9,5 @@ pub fn put(list: &mut [u32], at: usize, part: &[u32])
     requires { at + length part.now ≤ length list.old }
     ensures { list.new ≡ over list.old at part.now }
 {
-    let mut i = 0;
-    while i < part.len() {
-        list[at + i] = part[i];
-        i += 1;
-    }
+    list[at..at + part.len()].copy_from_slice(part);
 }

@@ -1,90 +1,70 @@
-// What an office's call on an open study is judged by, in the order 1, 2, 9, 3 to 5; FULL is told by the place that an add finds.
+// What an office's call on an open study is judged by, in the order 1, 2, 9, 3 to 5; FULL is told where an add finds no place.
+// Owners and blocks stay two parameters, as C lends them.
 #![tactic(auto)]
 
-ghost use Rattle.std.specs.Prelude.{◌≡◌, ◌≤◌, ◌<◌, length, set};
+ghost use Rattle.std.specs.Prelude.{◌≡◌, ◌<◌, length, set};
 ghost use Rattle.layout.specs.Entries.{entry_count};
 ghost use Rattle.layout.specs.Open.{place_count, blocks_count};
 ghost use Rattle.answers.specs.Answers.{◌then◌};
 ghost use Rattle.entries.specs.Judging.{judged};
-ghost use Rattle.open_rules.specs.Open.{study, block_at, study_size, owner_of, owns, site_owner, add_owner, lowest_free, full_answer};
+ghost use Rattle.open_rules.specs.Open.{study, block_at, study_size, owner_of, owns, site_owner, add_owner};
+ghost use Rattle.open_rules.specs.Working.{free_place};
 ghost use Rattle.open_rules.specs.Open.{may_add, amend_site_answer, read_answer};
 
 use answers::{Answer, Refusal};
 use layout::{ENTRIES, Worksheet};
 use open_rules::FREE;
 
+#[tactic(auto, unfolding(open_rules::specs::Open::study_size))]
 fn check_study(owners: &[u32], blocks: &[u32]) -> Answer
     ensures { result ≡ study_size (study owners.now blocks.now) }
 {
-    if owners.len() != layout::PLACES {
-        return Answer::Refused(Refusal::Size, 0);
-    }
-    if blocks.len() != layout::BLOCKS {
+    if owners.len() != layout::PLACES || blocks.len() != layout::BLOCKS {
         return Answer::Refused(Refusal::Size, 0);
     }
     Answer::Accepted
 }
 
+#[tactic(auto, unfolding(open_rules::specs::Open::owner_of))]
 fn owner_at(owners: &[u32], site: u32) -> u32
     ensures { result ≡ owner_of owners.now site }
 {
-    if owners.len() <= site as usize {
-        return FREE;
-    }
-    owners[site as usize]
+    owners.get(site as usize).copied().unwrap_or(FREE)
 }
 
+#[tactic(auto, unfolding(open_rules::specs::Open::owns))]
 fn is_own(owners: &[u32], office: u32, site: u32) -> bool
     ensures { result ≡ owns owners.now office site }
 {
-    if office == FREE {
-        return false;
-    }
-    owner_at(owners, site) == office
+    office != FREE && owner_at(owners, site) == office
 }
 
 // Whether the office has the site; one answer for another's, a free and no such place.
+#[tactic(auto, unfolding(open_rules::specs::Open::site_owner))]
 fn check_own(owners: &[u32], office: u32, site: u32) -> Answer
     ensures { result ≡ site_owner owners.now office site }
 {
-    if is_own(owners, office, site) {
-        return Answer::Accepted;
+    if !is_own(owners, office, site) {
+        return Answer::Refused(Refusal::Owner, site);
     }
-    Answer::Refused(Refusal::Owner, site)
+    Answer::Accepted
 }
 
+#[tactic(auto, unfolding(open_rules::specs::Open::add_owner))]
 fn check_office(office: u32) -> Answer
     ensures { result ≡ add_owner office }
 {
-    if office != FREE {
-        return Answer::Accepted;
-    }
-    Answer::Refused(Refusal::Owner, 0)
-}
-
-// The lowest free place; as many as there are places, where none is free.
-pub fn lowest_free(owners: &[u32]) -> usize
-    ensures { (result ≡ lowest_free owners.now) × (result ≤ length owners.now) }
-{
-    let mut place = 0;
-    while place < owners.len() {
-        if owners[place] == FREE {
-            return place;
-        }
-        place += 1;
-    }
-    place
-}
-
-// Whether the lowest free place is one.
-pub fn check_free(owners: &[u32], lowest: usize) -> Answer
-    requires { lowest ≡ lowest_free owners.now }
-    ensures { result ≡ full_answer owners.now }
-{
-    if owners.len() <= lowest {
-        return Answer::Refused(Refusal::Full, 0);
+    if office == FREE {
+        return Answer::Refused(Refusal::Owner, 0);
     }
     Answer::Accepted
+}
+
+// The lowest free place.
+pub fn lowest_free(owners: &[u32]) -> Option<usize>
+    ensures { result ≡ free_place owners.now }
+{
+    owners.iter().position(|owner| *owner == FREE)
 }
 
 // The first check's refusal, or else the second's answer.
@@ -109,28 +89,15 @@ pub fn judge_add(owners: &[u32], blocks: &[u32], office: u32, entries: &[u32]) -
     entries::judge(Worksheet::Junction, entries)
 }
 
-fn copy_block(blocks: &[u32], site: u32, entries: &mut [u32; ENTRIES])
-    requires { (length blocks.now ≡ blocks_count) × (site < place_count) }
-    ensures { entries.new ≡ block_at blocks.now site }
-{
-    lists::put(entries, 0, open_rules::block(blocks, site));
-}
-
-fn judge(entries: &[u32; ENTRIES]) -> Answer
-    ensures { result ≡ judged entries.now }
-{
-    entries::judge(Worksheet::Junction, entries)
-}
-
 // Judges a block's entries as they would stand with one of them changed.
 fn judge_block(blocks: &[u32], site: u32, entry: u32, value: u32) -> Answer
     requires { (length blocks.now ≡ blocks_count) × (site < place_count) × (entry < entry_count) }
     ensures { result ≡ judged (set (block_at blocks.now site) entry value) }
 {
     let mut entries = [0u32; ENTRIES];
-    copy_block(blocks, site, &mut entries);
+    entries.copy_from_slice(open_rules::block(blocks, site));
     entries[entry as usize] = value;
-    judge(&entries)
+    entries::judge(Worksheet::Junction, &entries)
 }
 
 // Judges an amendment of a site in its block.

@@ -4,13 +4,13 @@ use mathlib.Core.Logic.{◌≢◌}
 use mathlib.Core.Bool.{Bool, true, false, not, cond}
 use mathlib.Core.List.{List, [], ◌∷◌}
 use Prim.Native.Nat.{ℕ, zero, suc, ◌+◌, ◌≤◌, ◌<◌}
-use native.Mathlib.Numerals.{add-one}
 use native.Mathlib.Decide.{dec_lt}
 use native.Mathlib.Omega.{arith}
-use lib.Dec.{eqb, leb}
-use lib.ListN.{length, get_or, set, drop, drop_of_length-le, get_or-eq_default}
-use lib.Seq.{drop-cons}
-use borrow.Author.Tests.{eqb-true, eqb-false, eq-eqb, ne_eqb, leb-false, not-true, not-false}
+use lib.Dec.{eqb, leb, ltb}
+use lib.ListN.{length, get_or, set, get_or-eq_default}
+use borrow.Author.Tests.{eqb-true, eqb-false, eq-eqb, ne_eqb, leb-false, le-leb, lt-leb, le-ltb, lt-ltb, not-true, not-false}
+use Rattle.std.specs.Prelude.{Some, None}
+use Rattle.std.specs.List.{position_or_len}
 use Rattle.lists.proofs.Tests.{both_true}
 use Rattle.layout.specs.Entries.{entry_count}
 use Rattle.layout.specs.declared.Worksheet.TheVariants.{Junction}
@@ -26,6 +26,7 @@ use Rattle.sheet_cells.proofs.Cells.{sheet_accepted}
 use Rattle.amend_sets.specs.Amend.{entry_answer}
 use Rattle.amend_sets.proofs.Changes.{entry_accepted}
 use Rattle.open_rules.specs.Open.{Study, free, block_at, study_size, owner_of, owns, site_owner, add_owner, lowest_free, full_answer}
+use Rattle.open_rules.specs.Working.{free_place}
 use Rattle.open_rules.specs.Open.{may_add, add_answer, amend_site_answer, read_answer}
 
 -- ---- the checks
@@ -118,34 +119,50 @@ lower_taken (owner ∷ owners) k h = go (eqb owner free) refl k h (λ j. lower_t
     go false is zero below later = eqb-false owner free is
     go false is (suc j) below later = later j (omega arith)
 
--- looked for from the front: the lowest free place is as far past place n as it is among the owners from there on
-pub record Sought (owners : List ℕ) (n : ℕ) : Type 0 where
-  pub few : n ≤ length owners
-  pub rest : lowest_free owners ≡ n + lowest_free (drop n owners)
+-- a search from the front stops there
+stops_lowest : (owners : List ℕ) → position_or_len (λ owner. eqb owner free) owners ≡ lowest_free owners
+unfolding lowest_free
+stops_lowest [] = refl
+stops_lowest (owner ∷ owners) = go (eqb owner free) (stops_lowest owners)
+  where
+    go : (t : Bool) → position_or_len (λ k. eqb k free) owners ≡ lowest_free owners
+        → cond (not t) (1 + position_or_len (λ k. eqb k free) owners) 0 ≡ cond t 0 (suc (lowest_free owners))
+    go true e = refl
+    go false e = omega (arith, e)
 
 module _ (owners : List ℕ) where
-  pub sought_none : Sought owners 0
-  sought_none = record { few = omega arith; rest = omega arith }
+  told : free_place owners ≡ cond (ltb (lowest_free owners) (length owners)) (Some (lowest_free owners)) None
+  told = rw (stops_lowest owners)
 
-  at_place : (n : ℕ) → n < length owners → lowest_free (drop n owners) ≡ cond (eqb (get_or owners n free) free) 0 (suc (lowest_free (drop (suc n) owners)))
-  unfolding lowest_free
-  at_place n h = rw (drop-cons owners n free h)
+  -- where it finds a place, that is the lowest free one, and no add is told FULL
+  pub record Found (place : ℕ) : Type 0 where
+    pub lowest : place ≡ lowest_free owners
+    pub there : place < length owners
+    pub room : full_answer owners ≡ Accepted
 
-  pub sought_here : (n : ℕ) → n < length owners → get_or owners n free ≡ free → Sought owners n → n ≡ lowest_free owners
-  sought_here n h is s =
-      let found : lowest_free (drop n owners) ≡ 0 = at_place n h ∙ rw (eq-eqb _ _ is) in
-      omega (arith, s.rest, found)
+  pub found : {place : ℕ} → free_place owners ≡ Some place → Found place
+  unfolding full_answer
+  found {place} e = by (dec_lt (lowest_free owners) (length owners))
+    where
+      by : Dec (lowest_free owners < length owners) → Found place
+      by (yes h) =
+          let s : Some place ≡ Some (lowest_free owners) = sym e ∙ told ∙ rw (lt-ltb _ _ h) in
+          let lowest : place ≡ lowest_free owners = cc in
+          record { lowest = lowest; there = omega arith; room = rw (lt-leb _ _ h) }
+      by (no h) =
+          let s : Some place ≡ None = sym e ∙ told ∙ rw (le-ltb (lowest_free owners) (length owners) (omega arith)) in
+          absurd (cc)
 
-  pub sought_more : (n : ℕ) → n < length owners → get_or owners n free ≢ free → Sought owners n → Sought owners (n + 1)
-  sought_more n h is s =
-      let later : lowest_free (drop n owners) ≡ suc (lowest_free (drop (suc n) owners)) = at_place n h ∙ rw (ne_eqb _ _ is) in
-      record { few = omega arith; rest = rw (add-one n) (omega (arith, s.rest, later)) }
-
-  pub sought_all : (n : ℕ) → length owners ≤ n → Sought owners n → n ≡ lowest_free owners
-  unfolding lowest_free
-  sought_all n h s =
-      let none : lowest_free (drop n owners) ≡ 0 = rw (drop_of_length-le owners {i = n} h) in
-      omega (arith, s.rest, none)
+  -- where it finds none, FULL is told
+  pub full : free_place owners ≡ None → full_answer owners ≡ Refused Full 0
+  unfolding full_answer
+  full e = by (dec_lt (lowest_free owners) (length owners))
+    where
+      by : Dec (lowest_free owners < length owners) → refuse_if (leb (length owners) (lowest_free owners)) Full 0 ≡ Refused Full 0
+      by (yes h) =
+          let s : Some (lowest_free owners) ≡ None = sym (told ∙ rw (lt-ltb _ _ h)) ∙ e in
+          absurd (cc)
+      by (no h) = rw (le-leb (length owners) (lowest_free owners) (omega arith))
 
 -- FULL is not answered only where a place is free
 pub room : (owners : List ℕ) → full_answer owners ≡ Accepted → lowest_free owners < length owners
@@ -173,6 +190,16 @@ adds S office e accepted =
       fine = three.1;
       place = omega (arith, room S.owners all.1, (whole S one.0).owners);
     }
+
+-- past what does not go by the places, an add is accepted where one is free, and else told FULL
+module _ (S : Study) (office : ℕ) (e : List ℕ) (may : may_add S office e ≡ Accepted) where
+  pub add_accepted : {place : ℕ} → free_place S.owners ≡ Some place → add_answer S office e ≡ Accepted
+  unfolding add_answer
+  add_accepted some = rw (may, (found S.owners some).room)
+
+  pub add_full : free_place S.owners ≡ None → add_answer S office e ≡ Refused Full 0
+  unfolding add_answer
+  add_full none = rw (may, full S.owners none)
 
 pub record Amends (S : Study) (office s i v : ℕ) : Type 0 where
   pub study : Whole S

@@ -1,24 +1,11 @@
 // An open study that offices share: a site added, amended in its block, or read. Nothing is asked of the caller.
 #![tactic(auto)]
 
-ghost use Rattle.std.specs.Prelude.{◌≡◌, ◌+◌, ◌<◌, length, set};
-ghost use Rattle.lists.specs.Lists.{over};
-ghost use Rattle.layout.specs.Entries.{entry_count};
-ghost use Rattle.layout.specs.Open.{place_count, blocks_count};
-ghost use Rattle.open_rules.specs.Open.{study, with_site, add_answer, added, added_place, amend_site_answer, amended_blocks, read_answer, read_sheet};
+ghost use Rattle.std.specs.Prelude.{◌≡◌};
+ghost use Rattle.open_rules.specs.Open.{study, add_answer, added, added_place, amend_site_answer, amended_blocks, read_answer, read_sheet};
 
-use answers::Answer;
+use answers::{Answer, Refusal};
 use layout::Worksheet;
-
-// Gives a place to an office, and the entries to its block.
-fn put_site(owners: &mut [u32], blocks: &mut [u32], place: usize, office: u32, entries: &[u32])
-    requires { (length owners.old ≡ place_count) × (length blocks.old ≡ blocks_count) × (place < place_count) × (length entries.now ≡ entry_count) }
-    ensures { study owners.new blocks.new
-        ≡ with_site (study owners.old blocks.old) place office entries.now }
-{
-    owners[place] = office;
-    lists::put(blocks, layout::ENTRIES * place, entries);
-}
 
 // Adds an office's site at the lowest free place and tells which that is; where it is refused, all stays as it was.
 pub fn add(
@@ -34,16 +21,17 @@ pub fn add(
     ensures place_after { place.new
         ≡ added_place (study owners.old blocks.old) office entries.now place.old }
 {
-    let judged = open_judging::judge_add(owners, blocks, office, entries);
-    let lowest = open_judging::lowest_free(owners);
-    let room = open_judging::check_free(owners, lowest);
-    let answer = open_judging::in_order(judged, room);
-    let Answer::Accepted = answer else {
-        return answer;
+    let may = open_judging::judge_add(owners, blocks, office, entries);
+    let Answer::Accepted = may else {
+        return may;
     };
-    put_site(owners, blocks, lowest, office, entries);
+    let Some(lowest) = open_judging::lowest_free(owners) else {
+        return Answer::Refused(Refusal::Full, 0);
+    };
+    owners[lowest] = office;
+    lists::put(blocks, layout::ENTRIES * lowest, entries);
     *place = lowest as u32;
-    answer
+    may
 }
 
 // Changes one entry of an office's site in its block; where it is refused, the blocks stay as they were.

@@ -1,8 +1,8 @@
 // A field of the printed page: a number with its decimals, or a text, at the field's right end. Places count from the right.
 #![tactic(auto)]
 
-ghost use Rattle.std.specs.Prelude.{◌≡◌, ◌≤◌, ◌<◌};
-ghost use Rattle.page_fields.specs.Fields.{field_width, no_name, dropped, digit_byte, number_byte, decimals_of};
+ghost use Rattle.std.specs.Prelude.{◌≡◌, ◌-◌, ◌%◌, ◌≤◌, ◌<◌};
+ghost use Rattle.page_fields.specs.Fields.{field_width, last_place, no_name, dropped, digit_byte, number_byte, decimals_of};
 ghost use Rattle.page_fields.specs.Fields.{field_text, pick_field, column_field, shown};
 
 // Room for every digit of a number and the point.
@@ -11,7 +11,25 @@ pub const FIELD_WIDTH: usize = 11;
 // The place at its left end.
 pub const LAST_PLACE: usize = FIELD_WIDTH - 1;
 
-// Where the texts of each sort begin.
+// A place of a field, so many from its right end.
+#[derive(Clone, Copy)]
+pub struct Place {
+    pub from_right: usize,
+    pub ghost in_field: { from_right < field_width },
+}
+
+impl Place {
+    // The place of byte i of fields that stand side by side.
+    pub fn at(i: usize) -> Place
+        ensures { result.from_right ≡ last_place - i % field_width }
+    {
+        Place {
+            from_right: LAST_PLACE - i % FIELD_WIDTH,
+        }
+    }
+}
+
+// Where the texts of each sort begin. A text is told by its row of the table: an enum would name the rows a second time.
 const NOT_ALLOWED: usize = 0;
 
 const PICK_NAMES: usize = NOT_ALLOWED + 1;
@@ -48,15 +66,14 @@ fn dropped(number: u32, digits: usize) -> u32
     ensures { result ≡ dropped number digits }
 {
     let mut left = number;
-    let mut i: usize = 0;
-    while i < digits {
+    for _ in 0..digits {
         left /= 10;
-        i += 1;
     }
     left
 }
 
 // The digit that has so many after it; a blank before the first that is shown.
+#[tactic(auto, unfolding(crate::specs::Fields::digit_byte))]
 fn digit_byte(number: u32, decimals: usize, place: usize) -> u8
     ensures { result ≡ digit_byte number decimals place }
 {
@@ -68,6 +85,7 @@ fn digit_byte(number: u32, decimals: usize, place: usize) -> u8
 }
 
 // Place p of a number with decimals.
+#[tactic(auto, unfolding(crate::specs::Fields::number_byte))]
 fn number_byte(number: u32, decimals: usize, p: usize) -> u8
     ensures { result ≡ number_byte number decimals p }
 {
@@ -95,23 +113,19 @@ fn decimals_of(unit: u8) -> usize
     }
 }
 
-// Place p of one of the texts.
-pub fn field_text(field: usize, p: usize) -> u8
-    requires { (field ≤ no_name) × (p < field_width) }
-    ensures { result ≡ field_text field p }
+// A place of one of the texts.
+pub fn field_text(field: usize, place: Place) -> u8
+    requires { field ≤ no_name }
+    ensures { result ≡ field_text field place.from_right }
 {
-    FIELDS[FIELD_WIDTH * field + (LAST_PLACE - p)]
+    FIELDS[FIELD_WIDTH * field + (LAST_PLACE - place.from_right)]
 }
 
 // The name of a pick: protected, permitted, split.
 fn pick_field(value: u32) -> usize
     ensures { (result ≡ pick_field value) × (result ≤ no_name) }
 {
-    let last = layout::PICK - 1;
-    if (value as usize) < last {
-        return PICK_NAMES + value as usize;
-    }
-    PICK_NAMES + last
+    PICK_NAMES + (value as usize).min(layout::PICK - 1)
 }
 
 // A column's name: an approach, a pair, or none for the junction.
@@ -125,25 +139,17 @@ pub fn column_field(columns: usize, column: usize) -> usize
     }
 }
 
-// Place p of a cell's value.
-pub fn shown(unit: u8, value: u32, p: usize) -> u8
-    requires { p < field_width }
-    ensures { result ≡ shown unit value p }
+// A place of a cell's value. Units are the bytes that the titles print: an enum of them would be one table more.
+#[tactic(auto, unfolding(crate::specs::Fields::shown))]
+pub fn shown(unit: u8, value: u32, place: Place) -> u8
+    ensures { result ≡ shown unit value place.from_right }
 {
-    if unit == b'*' {
-        return field_text(pick_field(value), p);
+    match unit {
+        b'*' => field_text(pick_field(value), place),
+        b'A' if place.from_right == 0 => b'A' + (value % LETTERS) as u8,
+        b'A' => b' ',
+        b's' if value == layout::BLANK => field_text(NOT_ALLOWED, place),
+        b'F' if value == 0 => field_text(FROM_TABLE, place),
+        _ => number_byte(value, decimals_of(unit), place.from_right),
     }
-    if unit == b'A' {
-        if p == 0 {
-            return b'A' + (value % LETTERS) as u8;
-        }
-        return b' ';
-    }
-    if unit == b's' && value == layout::BLANK {
-        return field_text(NOT_ALLOWED, p);
-    }
-    if unit == b'F' && value == 0 {
-        return field_text(FROM_TABLE, p);
-    }
-    number_byte(value, decimals_of(unit), p)
 }

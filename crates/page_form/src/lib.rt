@@ -2,9 +2,9 @@
 // those beside it.
 #![tactic(auto)]
 
-ghost use Rattle.std.specs.Prelude.{◌≡◌, cond, ◌-◌, ◌≤◌, ◌<◌, ltb};
+ghost use Rattle.std.specs.Prelude.{◌≡◌, cond, ◌<◌, ltb};
 ghost use Rattle.layout.specs.Entries.{approach_count};
-ghost use Rattle.page_form.specs.Form.{title_byte, unit_of, lines, pairs, rights, whole, beside, row_count, end_of, section_by};
+ghost use Rattle.page_form.specs.Form.{titles, title_byte, unit_of, lines, pairs, rights, whole, beside, row_count, end_of, section_by};
 ghost use Rattle.page_form.specs.Form.{section_at, section_of, cell_in, row_of, column_of};
 ghost use Rattle.page_form.specs.Working.{most_rows, Small};
 
@@ -22,7 +22,7 @@ pub const ROWS: usize = LINES_ROW
 const TITLE_BYTES: usize = TITLE_WIDTH * ROWS;
 
 // Each row: its number in the rules, its name, its line in the book and its unit.
-const TITLES: [u8; TITLE_BYTES] = *b"no entry                     book :\
+static TITLES: [u8; TITLE_BYTES] = *b"no entry                     book :\
     L  lanes                        2 n\
     L  volume                       4 v\
     L  ideal flow                   9 v\
@@ -99,7 +99,7 @@ const POINT_ROWS: usize = 55;
 
 const POINT_TITLE_BYTES: usize = TITLE_WIDTH * POINT_ROWS;
 
-const POINT_TITLES: [u8; POINT_TITLE_BYTES] = *b"no entry                     book :\
+static POINT_TITLES: [u8; POINT_TITLE_BYTES] = *b"no entry                     book :\
     L  lanes                        2 n\
     L  volume                       3 v\
     L  ideal flow                   8 v\
@@ -164,7 +164,7 @@ pub struct Section {
     pub columns: usize,
 }
 
-// What a section is found by.
+// What a section is found by. Not a closure that tells an end: `section_by` goes by this, and each clause would say which end it is.
 #[derive(Clone, Copy)]
 enum Counted {
     Rows,
@@ -293,7 +293,7 @@ impl Section {
     }
 
     // The section of a row; a heading goes with the rows under it.
-    pub fn at(kind: Worksheet, row: usize) -> Section
+    fn at(kind: Worksheet, row: usize) -> Section
         ensures { (result ≡ section_at kind row) × Small result }
     {
         Section::by(kind, Counted::Rows, row)
@@ -314,62 +314,75 @@ pub fn rows(kind: Worksheet) -> usize
     Section::beside(kind).end(Counted::Rows)
 }
 
+fn titles(kind: Worksheet) -> &'static [u8]
+    ensures { result.now ≡ titles kind }
+{
+    match kind {
+        Worksheet::Junction => &TITLES,
+        Worksheet::Point => &POINT_TITLES,
+    }
+}
+
 // A byte of the titles, row after row; 0 past them.
 pub fn title_byte(kind: Worksheet, i: usize) -> u8
     ensures { result ≡ title_byte kind i }
 {
-    match kind {
-        Worksheet::Junction => {
-            if i < TITLE_BYTES {
-                return TITLES[i];
-            }
-        }
-        Worksheet::Point => {
-            if i < POINT_TITLE_BYTES {
-                return POINT_TITLES[i];
-            }
+    titles(kind).get(i).copied().unwrap_or(0)
+}
+
+// A row of a kind's page.
+#[derive(Clone, Copy)]
+pub struct Row {
+    pub kind: Worksheet,
+    pub number: usize,
+    pub ghost on_page: { number < most_rows },
+}
+
+impl Row {
+    pub fn new(kind: Worksheet, number: usize) -> Row
+        requires { number < most_rows }
+        ensures { (result.kind ≡ kind) × (result.number ≡ number) }
+    {
+        Row { kind, number }
+    }
+
+    // The row in which a cell stands.
+    pub fn of(kind: Worksheet, cell: usize) -> Row
+        ensures { (result.kind ≡ kind) × (result.number ≡ row_of kind cell) }
+    {
+        let section = Section::of(kind, cell);
+        Row {
+            kind,
+            number: section.row + cell.saturating_sub(section.cell) % section.step,
         }
     }
-    0
-}
 
-// A row's unit is its title's last byte.
-pub fn unit_of(kind: Worksheet, row: usize) -> u8
-    requires { row < most_rows }
-    ensures { result ≡ unit_of kind row }
-{
-    title_byte(kind, TITLE_WIDTH * row + (TITLE_WIDTH - 1))
-}
-
-// How far a number is past another; 0 where it is not.
-pub fn past(number: usize, from: usize) -> usize
-    ensures { (result ≡ number - from) × (result ≤ number) }
-{
-    if number < from {
-        return 0;
+    // The unit is the title's last byte.
+    pub fn unit(self) -> u8
+        ensures { result ≡ unit_of self.kind self.number }
+    {
+        title_byte(self.kind, TITLE_WIDTH * self.number + (TITLE_WIDTH - 1))
     }
-    number - from
-}
 
-// The cell in a column of a row.
-pub fn cell_in(kind: Worksheet, row: usize, column: usize) -> usize
-    requires { (row < most_rows) × (column < approach_count) }
-    ensures { result ≡ cell_in kind row column }
-{
-    let section = Section::at(kind, row);
-    section.cell + past(row, section.row) + section.step * column
-}
+    pub fn section(self) -> Section
+        ensures { (result ≡ section_at self.kind self.number) × Small result }
+    {
+        Section::at(self.kind, self.number)
+    }
 
-pub fn row_of(kind: Worksheet, cell: usize) -> usize
-    ensures { (result ≡ row_of kind cell) × (result < most_rows) }
-{
-    let section = Section::of(kind, cell);
-    section.row + past(cell, section.cell) % section.step
+    // The cell in a column.
+    pub fn cell_in(self, column: usize) -> usize
+        requires { column < approach_count }
+        ensures { result ≡ cell_in self.kind self.number column }
+    {
+        let section = self.section();
+        section.cell + self.number.saturating_sub(section.row) + section.step * column
+    }
 }
 
 pub fn column_of(kind: Worksheet, cell: usize) -> usize
     ensures { result ≡ column_of kind cell }
 {
     let section = Section::of(kind, cell);
-    past(cell, section.cell) / section.step
+    cell.saturating_sub(section.cell) / section.step
 }

@@ -1,5 +1,5 @@
 -- Where a star stands on the page: beside the numbers that decide, told from a sheet's cells and its kind alone.
-use Rattle.std.specs.Prelude.{ℕ, ◌+◌, ◌*◌, ◌-◌, ◌/◌, ◌%◌, Bool, false, cond, not, ◌&&◌, ◌||◌, List, get_or, eqb, leb, ltb}
+use Rattle.std.specs.Prelude.{ℕ, ◌+◌, ◌*◌, ◌-◌, ◌/◌, ◌%◌, Bool, false, cond, not, ◌&&◌, ◌||◌, List, get_or, eqb, leb, ltb, Option, Some, None, unwrap_or}
 use Rattle.layout.specs.Entries.{EB, WB, NB, SB}
 use Rattle.layout.specs.declared.Worksheet.{Worksheet}
 use Rattle.layout.specs.declared.Worksheet.TheVariants.{Junction, Point}
@@ -27,11 +27,11 @@ in_sum k cells a n =
     not (eqb (get_or cells (pair_of k (a / in_pair)) 0) BLANK) && cond (eqb a (leader k cells (a / in_pair))) (eqb n 16) (eqb n 17)
 
 -- the option that line 25 takes, A on a tie; none where it is BLANK, or 0 as for an empty approach, and none where there is no line 25
-unfoldable pub option_taken : Worksheet → List ℕ → ℕ → ℕ
+unfoldable pub option_taken : Worksheet → List ℕ → ℕ → Option ℕ
 option_taken Junction cells a =
     let lesser = line_at Junction cells a 25 in
-    cond (eqb lesser BLANK || eqb lesser 0) 0 (cond (eqb (line_at Junction cells a 23) lesser) 23 24)
-option_taken Point cells a = 0
+    cond (eqb lesser BLANK || eqb lesser 0) None (cond (eqb (line_at Junction cells a 23) lesser) (Some 23) (Some 24))
+option_taken Point cells a = None
 
 -- the total of pair q that is picked; a single point's pair has one
 unfoldable pub pick_of : Worksheet → List ℕ → ℕ → ℕ
@@ -53,7 +53,7 @@ deciding k cells =
 
 -- whether a cell has a star
 unfoldable pub line_starred : Worksheet → List ℕ → ℕ → ℕ → Bool
-line_starred k cells a n = in_sum k cells a n || eqb n (option_taken k cells a)
+line_starred k cells a n = in_sum k cells a n || eqb n (unwrap_or (option_taken k cells a) 0)
 
 unfoldable pub starred : Worksheet → List ℕ → ℕ → Bool
 starred k cells cell =

@@ -51,10 +51,8 @@ fn put_start(entries: &mut [u32])
     requires { length entries.old ≡ entry_count }
     ensures { entries.new ≡ start_entries }
 {
-    let mut i = 0;
-    while i < layout::ENTRIES {
+    for i in 0..layout::ENTRIES {
         entries[i] = start_at(i);
-        i += 1;
     }
 }
 

@@ -8,16 +8,16 @@ use Rattle.entries.specs.Layout.{movement_entry, approach_entry}
 use Rattle.procedure.specs.declared.Movement.{Movement}
 use Rattle.procedure.specs.declared.Approach.{Approach}
 
--- "Movement m then has entries 6m to 6m+5". (`1 = tt` is the field of no content that lets none but the kinds make their values.)
+-- "Movement m then has entries 6m to 6m+5". (`1 = record { }` is the field of no content that lets none but the kinds make their values.)
 unfoldable pub read_movement : List ℕ → ℕ → Movement
 read_movement e m =
     record {
-      lanes = record { 0 = movement_entry e m lanes_no; 1 = tt };
-      volume = record { 0 = record { 0 = movement_entry e m volume_no }; 1 = tt };
-      ideal = record { 0 = record { 0 = movement_entry e m ideal_no }; 1 = tt };
-      lost = record { 0 = record { 0 = movement_entry e m lost_no }; 1 = tt };
-      green = record { 0 = record { 0 = movement_entry e m green_no }; 1 = tt };
-      measured = record { 0 = movement_entry e m factor_no; 1 = tt };
+      lanes = record { 0 = movement_entry e m lanes_no; 1 = record {} };
+      volume = record { 0 = record { 0 = movement_entry e m volume_no }; 1 = record {} };
+      ideal = record { 0 = record { 0 = movement_entry e m ideal_no }; 1 = record {} };
+      lost = record { 0 = record { 0 = movement_entry e m lost_no }; 1 = record {} };
+      green = record { 0 = record { 0 = movement_entry e m green_no }; 1 = record {} };
+      measured = record { 0 = movement_entry e m factor_no; 1 = record {} };
     }
 
 -- "approach a 72+5a onward"
@@ -27,11 +27,11 @@ read_approach e a =
       left = read_movement e (left a);
       through = read_movement e (through a);
       right = read_movement e (right a);
-      shared = record { 0 = approach_entry e a shared_no; 1 = tt };
-      walkers = record { 0 = approach_entry e a walkers_no; 1 = tt };
-      button = record { 0 = approach_entry e a button_no; 1 = tt };
-      crossing = record { 0 = record { 0 = approach_entry e a crossing_no }; 1 = tt };
-      free = record { 0 = approach_entry e a free_no; 1 = tt };
+      shared = record { 0 = approach_entry e a shared_no; 1 = record {} };
+      walkers = record { 0 = approach_entry e a walkers_no; 1 = record {} };
+      button = record { 0 = approach_entry e a button_no; 1 = record {} };
+      crossing = record { 0 = record { 0 = approach_entry e a crossing_no }; 1 = record {} };
+      free = record { 0 = approach_entry e a free_no; 1 = record {} };
     }
 
 abbrev pub movement_of : Approach → Group → Movement

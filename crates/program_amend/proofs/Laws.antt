@@ -16,16 +16,13 @@ use Rattle.page.specs.Worksheet.{change_text}
 use Rattle.study.specs.Study.{is_old, judgement, sites_of, site_answer, site_entries}
 use Rattle.study_changed.specs.Changed.{with_entries}
 use Rattle.text.specs.Text.{Placed}
-use Rattle.text.proofs.Laws.{placed_nothing}
 use Rattle.program_words.specs.Words.{word_at}
 use Rattle.program_outcome.specs.declared.Call.{Call}
 use Rattle.program_outcome.specs.declared.Lengths.{Lengths}
-use Rattle.program_outcome.specs.Outcome.{Outcome, saying, named, with_file, Left}
-use Rattle.program_outcome.specs.Working.{only_said}
-use Rattle.program_site.specs.Site.{site_named, sought_by, sought, sought_text, with_site}
-use Rattle.program_site.specs.declared.Sought.{Sought}
-use Rattle.program_site.specs.declared.Sought.TheVariants.{Site, Missing, Bad}
-use Rattle.program_site.proofs.Laws.{is_there, left_unsought}
+use Rattle.program_outcome.specs.Outcome.{saying, named, with_file, Left}
+use Rattle.std.specs.Prelude.{Result, Ok, Err}
+use Rattle.program_site.specs.Site.{site_named, sought_by, sought, with_site}
+use Rattle.program_site.specs.declared.NoSite.{NoSite}
 use Rattle.program_changes.specs.declared.Done.{Done}
 use Rattle.program_changes.specs.Changes.{most_changes, changed_by}
 use Rattle.program_changes.specs.Working.{Came}
@@ -44,41 +41,29 @@ left_twice Accepted new old other = refl
 left_twice (No why place) new old other = refl
 
 -- a site that is found is there
-pub site_there : (file word : List ℕ) {site : ℕ} → sought file word ≡ Site site → site_answer file site ≡ Accepted
+pub site_there : (file word : List ℕ) {site : ℕ} → sought file word ≡ Ok site → site_answer file site ≡ Accepted
 unfolding sought
 site_there file word {site} found = by (judgement file) refl (leb (sites_of file) (site_named word)) refl found
   where
-    clash : {sites : ℕ} → Missing sites ≡ Site site → site_answer file site ≡ Accepted
-    clash gone = absurd (let z : ◌≡◌ {A = ℕ} 0 1 = cc in omega arith)
+    clash : {why : NoSite} → Err why ≡ Ok site → site_answer file site ≡ Accepted
+    clash gone = cc
 
-    here : leb (sites_of file) (site_named word) ≡ false → judgement file ≡ Accepted → Site (site_named word) ≡ Site site
+    here : leb (sites_of file) (site_named word) ≡ false → judgement file ≡ Accepted → ◌≡◌ {A = Result ℕ NoSite} (Ok (site_named word)) (Ok site)
         → site_answer file site ≡ Accepted
     here lacks good is =
         let same : site_named word ≡ site = cc in
         rw (good, ← same, lacks)
 
     by : (a : Answer) → judgement file ≡ a → (lacks : Bool) → leb (sites_of file) (site_named word) ≡ lacks
-        → sought_by a (sites_of file) (site_named word) ≡ Site site
+        → sought_by a (sites_of file) (site_named word) ≡ Ok site
         → site_answer file site ≡ Accepted
     by Accepted good true lacks is = clash (rw lacks at is)
     by Accepted good false lacks is = here lacks good (rw lacks at is)
-    by (No why place) bad lacks so is = absurd (let z : ◌≡◌ {A = ℕ} 0 1 = cc in omega arith)
+    by (No why place) bad lacks so is = cc
 
--- where there is no such site, that is said, and nothing is printed or written
-pub left_nowhere : (this : Sought) (name word : List ℕ) (run : ℕ → Outcome) {printed written said said' : List ℕ} {n : ℕ}
-    → is_there this ≡ false
-    → Placed said 0 (sought_text this name word) said' n
-    → Left (with_site this name word run) printed said printed said' (only_said n)
-    × Placed written 0 (with_site this name word run).writes written 0
-left_nowhere (Site site) name word run gone p = absurd (let y : ◌≡◌ {A = ℕ} 0 1 = cc in omega arith)
-left_nowhere (Missing sites) name word run {written = written} gone p =
-    (left_unsought (Missing sites) name word run gone p, placed_nothing written 0)
-left_nowhere (Bad why place) name word run {written = written} gone p =
-    (left_unsought (Bad why place) name word run gone p, placed_nothing written 0)
-
--- and where there is, what the changes came to is given
+-- where it is there, what the changes came to is given
 pub left_given : (k : Worksheet) (count : ℕ) (words file : List ℕ) {site : ℕ} {printed written said entries printed' written' said' : List ℕ}
-    {done : Done} {lengths : Lengths} → sought file (word_at words 1) ≡ Site site
+    {done : Done} {lengths : Lengths} → sought file (word_at words 1) ≡ Ok site
     → Came (changed_by k words (changes_in count) (site_entries file site)) said entries said' done
     → Placed printed 0 (cond done.made (change_text k (sheet_before k (site_entries file site)) (sheet_for k entries)) []) printed' lengths.prints
     → Placed written 0 (cond (done.made && is_kept count) (with_entries file site entries) []) written' lengths.writes
@@ -117,12 +102,11 @@ old_unwritten k count words file old = by (is_kept count) refl (sought file (wor
     unkept true e = refl
     unkept false e = refl
 
-    by : (kept : Bool) → is_kept count ≡ kept → (this : Sought)
+    by : (kept : Bool) → is_kept count ≡ kept → (this : Result ℕ NoSite)
         → (cond (kept && is_old file) (saying (named (word_at words 0) old_text))
         (with_site this (word_at words 0) (word_at words 1) (amend_site k count words file))).writes ≡ []
     by true e this = rw old
-    by false e (Site site) =
+    by false e (Ok site) =
         let so = changed_by k words (changes_in count) (site_entries file site) in
         rw e (unkept so.made (with_entries file site so.entries))
-    by false e (Missing sites) = refl
-    by false e (Bad why place) = refl
+    by false e (Err why) = refl

@@ -13,7 +13,7 @@ ghost use Rattle.study_changed.specs.Changed.{with_entries};
 ghost use Rattle.text.specs.Text.{Placed};
 ghost use Rattle.program_outcome.specs.declared.Remark.TheVariants.{Unread as NotRead};
 ghost use Rattle.program_outcome.specs.Outcome.{named, remarked, Left};
-ghost use Rattle.program_site.specs.Site.{sought_text};
+ghost use Rattle.program_site.specs.Working.{sought_text};
 ghost use Rattle.program_amend.specs.Run.{past_site, changes_in, is_kept, amend_takes, new_place, amend_use, sheet_before};
 ghost use Rattle.program_amend.specs.Run.{old_text, amend_file, amend_study, amend_work, amend_run};
 ghost use Rattle.program_amend.specs.Working.{use_most};
@@ -21,11 +21,11 @@ ghost use Rattle.program_amend.specs.Working.{use_most};
 use answers::Answer;
 use layout::{CELLS, ENTRIES, POINT_CELLS, Worksheet};
 use program_changes::{CHANGE_WORDS, CHANGES_FROM, MOST_CHANGES};
-use program_outcome::{AREA_BYTES, Call, Input, Lengths, Remark};
-use program_site::Sought;
+use program_outcome::{AREA_BYTES, Call, Lengths, Remark};
+use program_site::NoSite;
 use program_wish::Wish;
 
-// Room for what is printed, for what is written and for what is said.
+// Room for what is printed, for what is written and for what is said; how much is used stands beside it, since there is no heap.
 pub const PRINTED_BYTES: usize = page::CHANGE_BYTES;
 
 pub const WRITTEN_BYTES: usize = study::MOST_BYTES;
@@ -55,10 +55,7 @@ pub struct Given {
 fn past_site(count: usize) -> usize
     ensures { result ≡ past_site count }
 {
-    if count <= CHANGES_FROM {
-        return 0;
-    }
-    count - (CHANGES_FROM + 1)
+    count.saturating_sub(CHANGES_FROM + 1)
 }
 
 // How many changes so many arguments ask for.
@@ -81,23 +78,14 @@ pub fn takes(count: usize) -> bool
 {
     let past = past_site(count);
     let changes = past / CHANGE_WORDS;
-    if changes == 0 {
-        return false;
-    }
-    if MOST_CHANGES < changes {
-        return false;
-    }
-    past % CHANGE_WORDS <= 1
+    0 < changes && changes <= MOST_CHANGES && past % CHANGE_WORDS <= 1
 }
 
 // The place of the last word, which names the file to write.
 pub fn new_place(count: usize) -> usize
     ensures { result ≡ new_place count }
 {
-    if count < CHANGES_FROM {
-        return 0;
-    }
-    count - CHANGES_FROM
+    count.saturating_sub(CHANGES_FROM)
 }
 
 // Lists what changed since a sheet that was filled, or not.
@@ -117,25 +105,25 @@ pub fn list_changes(
     }
 }
 
-// Prints what acceptable entries change on the sheet of other entries, both filled in lent cells.
-fn print_from(
+// Prints what acceptable entries change on the sheet of other entries, with as many cells as a sheet of the kind has.
+fn print_sheets<const N: usize>(
     kind: Worksheet,
     entries: &[u32; ENTRIES],
     changed: &[u32; ENTRIES],
-    before: &mut [u32],
-    after: &mut [u32],
     printed: &mut [u8; PRINTED_BYTES],
 ) -> usize
-    requires { (length before.old ≡ sheet_count kind) × (length after.old ≡ sheet_count kind) × (judged_for kind changed.now ≡ Accepted) }
+    requires { (N ≡ sheet_count kind) × (judged_for kind changed.now ≡ Accepted) }
     ensures { Placed printed.old 0
         (change_text kind (sheet_before kind entries.now) (sheet_for kind changed.now)) printed.new result }
 {
-    let filled = sheet::fill(kind, entries, before);
-    sheet::fill(kind, changed, after);
-    list_changes(kind, filled, before, after, printed)
+    let mut before = [0u32; N];
+    let mut after = [0u32; N];
+    let filled = sheet::fill(kind, entries, &mut before);
+    sheet::fill(kind, changed, &mut after);
+    list_changes(kind, filled, &before, &after, printed)
 }
 
-// The same, with as many cells as a sheet of the kind has.
+// The same, by the kind.
 fn print_changes(
     kind: Worksheet,
     entries: &[u32; ENTRIES],
@@ -147,28 +135,8 @@ fn print_changes(
         (change_text kind (sheet_before kind entries.now) (sheet_for kind changed.now)) printed.new result }
 {
     match kind {
-        Worksheet::Junction => {
-            let mut before = [0u32; CELLS];
-            print_from(
-                kind,
-                entries,
-                changed,
-                &mut before,
-                &mut [0u32; CELLS],
-                printed,
-            )
-        }
-        Worksheet::Point => {
-            let mut before = [0u32; POINT_CELLS];
-            print_from(
-                kind,
-                entries,
-                changed,
-                &mut before,
-                &mut [0u32; POINT_CELLS],
-                printed,
-            )
-        }
+        Worksheet::Junction => print_sheets::<CELLS>(kind, entries, changed, printed),
+        Worksheet::Point => print_sheets::<POINT_CELLS>(kind, entries, changed, printed),
     }
 }
 
@@ -210,7 +178,7 @@ fn give(
     let kind = given.worksheet;
     let says = given.says;
     if !given.made {
-        return program_outcome::only_said(says);
+        return Lengths::said(says);
     }
     let prints = print_changes(kind, entries, changed, printed);
     let writes = write_site(file, given.site, given.kept, changed, written);
@@ -221,7 +189,13 @@ fn give(
     }
 }
 
-fn say_site(sought: Sought, name: &[u8], word: &[u8], said: &mut [u8; SAID_BYTES]) -> usize
+// The sentence is made in an area of its own size; a closure that is lent that area would need a longer clause than this function is.
+fn say_site(
+    sought: Result<u32, NoSite>,
+    name: &[u8],
+    word: &[u8],
+    said: &mut [u8; SAID_BYTES],
+) -> usize
     ensures { Placed said.old 0 (sought_text sought name.now word.now) said.new result }
 {
     let mut sentence = [0u8; program_outcome::SAID_BYTES];
@@ -229,6 +203,7 @@ fn say_site(sought: Sought, name: &[u8], word: &[u8], said: &mut [u8; SAID_BYTES
     program_changes::put_sentence(said, 0, &sentence, size)
 }
 
+// The same of a file that cannot be read.
 fn say_unread(name: &[u8], said: &mut [u8; SAID_BYTES]) -> usize
     ensures { Placed said.old 0 (remarked name.now NotRead) said.new result }
 {
@@ -258,36 +233,32 @@ fn amend_file(
     let word = program_words::word(words, SITE);
     let mut entries = [0u32; ENTRIES];
     let sought = program_site::read_site(file, word, &mut entries);
-    match sought {
-        Sought::Site(site) => {
-            let mut changed = entries;
-            let changes = changes_in(count);
-            let done = program_changes::change_all(worksheet, words, changes, &mut changed, said);
-            let given = Given {
-                worksheet,
-                site,
-                kept: is_kept(count),
-                made: done.made,
-                says: done.says,
-            };
-            give(file, given, &entries, &changed, printed, written)
-        }
-        Sought::Missing(_) => program_outcome::only_said(say_site(sought, name, word, said)),
-        Sought::Bad(_, _) => program_outcome::only_said(say_site(sought, name, word, said)),
-    }
+    let Ok(site) = sought else {
+        return Lengths::said(say_site(sought, name, word, said));
+    };
+    let mut changed = entries;
+    let changes = changes_in(count);
+    let done = program_changes::change_all(worksheet, words, changes, &mut changed, said);
+    let given = Given {
+        worksheet,
+        site,
+        kept: is_kept(count),
+        made: done.made,
+        says: done.says,
+    };
+    give(file, given, &entries, &changed, printed, written)
 }
 
 // Says that a study of before is to be converted first.
+#[tactic(auto, unfolding(crate::specs::Run::old_text, text::specs::Text::ascii))]
 fn say_old(name: &[u8], said: &mut [u8; SAID_BYTES]) -> usize
     ensures { Placed said.old 0 (named name.now old_text) said.new result }
 {
-    let mut sentence = [0u8; program_outcome::SAID_BYTES];
-    let size = program_outcome::put_named(
-        &mut sentence,
+    program_outcome::put_named(
+        said,
         name,
         b"a study of before (ICUS), which is not written any more: first icustudy convert it\n",
-    );
-    program_changes::put_sentence(said, 0, &sentence, size)
+    )
 }
 
 // Changes entries of the site that a word names, unless the changed study is to be kept and the file is one of before, which is not
@@ -308,12 +279,13 @@ fn amend_study(
 {
     if is_kept(call.arguments) && study::is_old(file) {
         let name = program_words::word(words, NAME);
-        return program_outcome::only_said(say_old(name, said));
+        return Lengths::said(say_old(name, said));
     }
     amend_file(call, file, words, printed, written, said)
 }
 
 // Puts how the program is called to the front.
+#[tactic(auto, unfolding(crate::specs::Run::amend_use, text::specs::Text::ascii))]
 fn put_use(out: &mut [u8]) -> usize
     requires { use_most ≤ length out.old }
     ensures { Placed out.old 0 amend_use out.new result }
@@ -345,12 +317,11 @@ fn work(
     ensures placed { Placed written.old 0 (amend_work call words.now area.now).writes written.new result.writes }
 {
     if !takes(call.arguments) {
-        return program_outcome::only_said(put_use(said));
+        return Lengths::said(put_use(said));
     }
-    let input = call.input;
-    let Input::Read(size) = input else {
+    let Some(size) = call.input else {
         let name = program_words::word(words, NAME);
-        return program_outcome::only_said(say_unread(name, said));
+        return Lengths::said(say_unread(name, said));
     };
     let file = program_outcome::front(area, size);
     amend_study(call, file, words, printed, written, said)
@@ -371,8 +342,8 @@ pub fn run(
 {
     let wish = program_wish::wish_of(call.arguments, program_words::word(words, NAME));
     match wish {
-        Wish::Help => program_outcome::only_printed(put_use(printed)),
-        Wish::Version => program_outcome::only_printed(program_wish::put_version(printed)),
+        Wish::Help => Lengths::printed(put_use(printed)),
+        Wish::Version => Lengths::printed(program_wish::put_version(printed)),
         Wish::Work => work(call, words, area, printed, written, said),
     }
 }

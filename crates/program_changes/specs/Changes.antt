@@ -1,10 +1,9 @@
 -- The changes that `icuamend` is asked for, of entries for a sheet of kind k: "as all entries would stand" each is judged; one that is
 -- not made is told and passed over.
-use Rattle.std.specs.Prelude.{ℕ, zero, suc, ◌+◌, ◌*◌, Bool, true, false, cond, ◌||◌, List, [], ◌++◌, set, eqb, leb, ltb}
+use Rattle.std.specs.Prelude.{ℕ, zero, suc, ◌+◌, ◌*◌, Bool, false, cond, ◌||◌, List, [], ◌++◌, set, ltb, Option, Some, None, Result, Ok, Err, is_ok}
 use Rattle.answers.specs.declared.Answer.{Answer}
 use Rattle.answers.specs.declared.Answer.TheVariants.{Accepted, Refused as No}
 use Rattle.layout.specs.declared.Worksheet.{Worksheet}
-use Rattle.layout.specs.Entries.{entry_count}
 use Rattle.kinds.specs.Kinds.{kind_at}
 use Rattle.entries.specs.Judging.{judged_for}
 use Rattle.text.specs.Text.{ascii}
@@ -20,10 +19,9 @@ use Rattle.program_outcome.specs.declared.Remark.TheVariants.{NoName as NotNamed
 use Rattle.program_outcome.specs.Outcome.{named, remarked}
 use Rattle.program_changes.specs.declared.Wrong.{Wrong}
 use Rattle.program_changes.specs.declared.Wrong.TheVariants.{NoName, NoEntry, NotValue}
-use Rattle.program_changes.specs.declared.Asked.{Asked}
-use Rattle.program_changes.specs.declared.Asked.TheVariants.{Change, Unclear}
-use Rattle.program_changes.specs.declared.Verdict.{Verdict}
-use Rattle.program_changes.specs.declared.Verdict.TheVariants.{Made, Refused, Unmade}
+use Rattle.program_changes.specs.declared.Change.{Change}
+use Rattle.program_changes.specs.declared.NotMade.{NotMade}
+use Rattle.program_changes.specs.declared.NotMade.TheVariants.{Unclear, Refused}
 
 -- the most changes of one call
 abbrev pub most_changes : ℕ
@@ -32,15 +30,21 @@ most_changes = 20
 -- one change -----------------------------------------------------------------------------------------------------------
 
 -- what is asked for: two words name the entry, a third is its value
-abbrev pub asked_for : ℕ → Value → Asked
-asked_for i (Is value) = Change i value
-asked_for i (Not why) = Unclear (NotValue why)
+abbrev pub asked_for : ℕ → Value → Result Change Wrong
+asked_for i (Is value) = Ok (record { entry = i; value = value })
+asked_for i (Not why) = Err (NotValue why)
 
-unfoldable pub asked_of : List ℕ → List ℕ → List ℕ → Asked
-asked_of title kind value =
-    cond (leb title_count (row_of title)) (Unclear NoName)
-    (cond (eqb (entry_named title kind) entry_count) (Unclear NoEntry)
-    (asked_for (entry_named title kind) (value_of (kind_at (entry_named title kind)) value)))
+-- whether a word's row in the table is a title's
+abbrev pub is_title : Option ℕ → Bool
+is_title None = false
+is_title (Some row) = ltb row title_count
+
+abbrev pub asked_at : Option ℕ → List ℕ → Result Change Wrong
+asked_at None value = Err NoEntry
+asked_at (Some i) value = asked_for i (value_of (kind_at i) value)
+
+unfoldable pub asked_of : List ℕ → List ℕ → List ℕ → Result Change Wrong
+asked_of title kind value = cond (is_title (row_of title)) (asked_at (entry_named title kind) value) (Err NoName)
 
 -- what is said of the word that is wrong
 abbrev pub wrong_text : Wrong → List ℕ → List ℕ → List ℕ → List ℕ
@@ -48,29 +52,28 @@ wrong_text NoName title kind value = remarked title NotNamed
 wrong_text NoEntry title kind value = remarked kind NotEntry
 wrong_text (NotValue why) title kind value = named value (trouble_text why value)
 
--- entry i becomes value, if the entries are acceptable as they would stand
-abbrev pub verdict_by : Answer → ℕ → ℕ → Verdict
-verdict_by Accepted i value = Made i value
-verdict_by (No why place) i value = Refused why place
+-- the entry becomes the value, if the entries are acceptable as they would stand
+abbrev pub verdict_by : Answer → Change → Result Change NotMade
+verdict_by Accepted change = Ok change
+verdict_by (No why place) change = Err (Refused why place)
 
-abbrev pub verdict_for : Worksheet → Asked → List ℕ → Verdict
-verdict_for k (Change i value) e = verdict_by (judged_for k (set e i value)) i value
-verdict_for k (Unclear wrong) e = Unmade wrong
+abbrev pub verdict_for : Worksheet → Result Change Wrong → List ℕ → Result Change NotMade
+verdict_for k (Ok change) e = verdict_by (judged_for k (set e change.entry change.value)) change
+verdict_for k (Err wrong) e = Err (Unclear wrong)
 
 -- what a change of entries comes to
-unfoldable pub verdict_of : Worksheet → List ℕ → List ℕ → List ℕ → List ℕ → Verdict
+unfoldable pub verdict_of : Worksheet → List ℕ → List ℕ → List ℕ → List ℕ → Result Change NotMade
 verdict_of k title kind value e = verdict_for k (asked_of title kind value) e
 
 -- the entries afterwards
-abbrev pub entries_after : Verdict → List ℕ → List ℕ
-entries_after (Made i value) e = set e i value
-entries_after (Refused why place) e = e
-entries_after (Unmade wrong) e = e
+abbrev pub entries_after : Result Change NotMade → List ℕ → List ℕ
+entries_after (Ok change) e = set e change.entry change.value
+entries_after (Err why) e = e
 
-abbrev pub is_made : Verdict → Bool
-is_made (Made i value) = true
-is_made (Refused why place) = false
-is_made (Unmade wrong) = false
+-- what is said of a change that is not made
+abbrev pub why_text : NotMade → List ℕ → List ℕ → List ℕ → List ℕ
+why_text (Unclear wrong) title kind value = wrong_text wrong title kind value
+why_text (Refused why place) title kind value = refusal_text why place
 
 -- the words of a call ---------------------------------------------------------------------------------------------------
 
@@ -94,24 +97,17 @@ kind_in words n = word_of_change words n 1
 abbrev pub value_in : List ℕ → ℕ → List ℕ
 value_in words n = word_of_change words n 2
 
-unfoldable pub verdict_in : Worksheet → List ℕ → ℕ → List ℕ → Verdict
+unfoldable pub verdict_in : Worksheet → List ℕ → ℕ → List ℕ → Result Change NotMade
 verdict_in k words n e = verdict_of k (title_in words n) (kind_in words n) (value_in words n) e
-
--- what is said of a change that is not made
-abbrev pub wrong_in : Wrong → List ℕ → ℕ → List ℕ
-wrong_in wrong words n = wrong_text wrong (title_in words n) (kind_in words n) (value_in words n)
-
-unfoldable pub verdict_text : Verdict → List ℕ → ℕ → List ℕ
-verdict_text (Made i value) words n = []
-verdict_text (Refused why place) words n = refusal_text why place
-verdict_text (Unmade wrong) words n = wrong_in wrong words n
 
 -- "change 2: ", where there are several
 unfoldable pub heading : Bool → ℕ → List ℕ
 heading several n = cond several (numbered (ascii "change ") (n + 1) ++ ascii ": ") []
 
-unfoldable pub told : Bool → List ℕ → ℕ → Verdict → List ℕ
-told several words n verdict = cond (is_made verdict) [] (heading several n ++ verdict_text verdict words n)
+-- a change that is made is not told
+abbrev pub told : Bool → List ℕ → ℕ → Result Change NotMade → List ℕ
+told several words n (Ok change) = []
+told several words n (Err why) = heading several n ++ why_text why (title_in words n) (kind_in words n) (value_in words n)
 
 -- all of them -----------------------------------------------------------------------------------------------------------
 
@@ -121,11 +117,11 @@ pub record Changes : Type 0 where
   pub made : Bool
   pub says : List ℕ
 
-abbrev pub with_verdict : Bool → List ℕ → ℕ → Verdict → Changes → Changes
+abbrev pub with_verdict : Bool → List ℕ → ℕ → Result Change NotMade → Changes → Changes
 with_verdict several words n verdict so =
     record {
       entries = entries_after verdict so.entries;
-      made = so.made || is_made verdict;
+      made = so.made || is_ok verdict;
       says = so.says ++ told several words n verdict;
     }
 

@@ -1,16 +1,11 @@
--- The entry that is asked for, what the changes leave in lent areas, and how long a sentence is at most: no public promise says it.
-use Rattle.std.specs.Prelude.{ℕ, ◌+◌, ◌*◌, ◌≡◌, List}
+-- What the changes leave in lent areas, and how long a sentence is at most: no public promise says it.
+use Rattle.std.specs.Prelude.{ℕ, ◌+◌, ◌*◌, ◌≤◌, ◌≡◌, Bool, ◌||◌, List, Result, is_ok}
 use Rattle.text.specs.Text.{digit_most, Placed}
 use Rattle.program_outcome.specs.Outcome.{word_most}
-use Rattle.program_changes.specs.declared.Asked.{Asked}
-use Rattle.program_changes.specs.declared.Asked.TheVariants.{Change, Unclear}
+use Rattle.program_changes.specs.declared.Change.{Change}
+use Rattle.program_changes.specs.declared.NotMade.{NotMade}
 use Rattle.program_changes.specs.declared.Done.{Done}
-use Rattle.program_changes.specs.Changes.{Changes, most_changes}
-
--- the entry that is asked for, if one is
-abbrev pub entry_asked : Asked → ℕ
-entry_asked (Change i value) = i
-entry_asked (Unclear wrong) = 0
+use Rattle.program_changes.specs.Changes.{Changes, most_changes, entries_after, told}
 
 -- "change ", a number and ": "
 abbrev pub heading_most : ℕ
@@ -25,6 +20,14 @@ sentence_most = heading_most + verdict_most
 
 abbrev pub said_most : ℕ
 said_most = most_changes * sentence_most
+
+-- what one change leaves that comes to a verdict, told past what was said before it
+pub record Stepped (so : Done) (verdict : Result Change NotMade) (several : Bool) (words : List ℕ) (n : ℕ)
+    (e e' said said' : List ℕ) (done : Done) : Type 0 where
+  pub entries : e' ≡ entries_after verdict e
+  pub made : done.made ≡ so.made || is_ok verdict
+  pub says : Placed said so.says (told several words n verdict) said' done.says
+  pub few : done.says ≤ so.says + sentence_most
 
 -- the entries and the sentences that changes come to, in the areas that they were lent
 pub record Came (so : Changes) (said entries' said' : List ℕ) (done : Done) : Type 0 where

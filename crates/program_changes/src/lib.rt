@@ -1,13 +1,15 @@
 // The changes that `icuamend` is asked for, made one after the other; one that is not made is told and passed over.
 #![tactic(auto)]
 
-ghost use Rattle.std.specs.Prelude.{◌≡◌, ◌||◌, ◌+◌, ◌≤◌, ◌<◌, length, take, set};
+ghost use Rattle.std.specs.Prelude.{◌≡◌, ◌++◌, ◌+◌, ◌≤◌, ◌<◌, length, take, set, IfOk};
 ghost use Rattle.layout.specs.Entries.{entry_count};
 ghost use Rattle.entries.specs.Judging.{judged_for};
 ghost use Rattle.text.specs.Text.{Placed};
-ghost use Rattle.program_changes.specs.Changes.{most_changes, asked_of, wrong_text, verdict_by, verdict_of, entries_after, is_made};
-ghost use Rattle.program_changes.specs.Changes.{change_words, word_of_change, verdict_in, wrong_in, verdict_text, heading, told, changed_by};
-ghost use Rattle.program_changes.specs.Working.{entry_asked, verdict_most, heading_most, sentence_most, said_most, Came};
+ghost use Rattle.text_names.specs.Names.{row_of};
+ghost use Rattle.program_changes.specs.declared.NotMade.TheVariants.{Unclear};
+ghost use Rattle.program_changes.specs.Changes.{most_changes, is_title, asked_of, wrong_text, why_text, verdict_by, verdict_of, entries_after};
+ghost use Rattle.program_changes.specs.Changes.{title_in, kind_in, value_in, verdict_in, heading, changed_by};
+ghost use Rattle.program_changes.specs.Working.{verdict_most, heading_most, sentence_most, said_most, Stepped, Came};
 
 use answers::{Answer, Refusal};
 use kinds::Kind;
@@ -43,165 +45,139 @@ pub enum Wrong {
     NotValue(Trouble),
 }
 
-// What the words of a change ask for: an entry's new value, unless one of them is wrong.
+// An entry, and the value that it is to have.
 #[derive(Clone, Copy)]
-pub enum Asked {
-    Change(u32, u32),
+pub struct Change {
+    pub entry: u32,
+    pub value: u32,
+}
+
+// Why a change is not made: a word is wrong, or the entries would be refused.
+#[derive(Clone, Copy)]
+pub enum NotMade {
     Unclear(Wrong),
-}
-
-// What a change comes to: an entry has its new value, or why not.
-#[derive(Clone, Copy)]
-pub enum Verdict {
-    Made(u32, u32),
     Refused(Refusal, u32),
-    Unmade(Wrong),
 }
 
-// What the changes so far came to: whether one was made, and how many bytes are said of those that were not.
+impl From<Wrong> for NotMade {
+    ghost from_gives = { λ wrong why. why ≡ Unclear wrong };
+
+    fn from(wrong: Wrong) -> NotMade {
+        NotMade::Unclear(wrong)
+    }
+}
+
+// The words of a change: what the entry belongs to, its kind there, and its value.
+#[derive(Clone, Copy)]
+pub struct ChangeWords<'a> {
+    pub title: &'a [u8],
+    pub kind: &'a [u8],
+    pub value: &'a [u8],
+}
+
+fn is_title(word: &[u8]) -> bool
+    ensures { result ≡ is_title (row_of word.now) }
+{
+    text_names::row_of(word).is_some_and(|row| row < text_names::TITLES)
+}
+
+impl<'a> ChangeWords<'a> {
+    // The entry and the value that they name.
+    pub fn asked(&self) -> Result<Change, Wrong>
+        ensures value { result ≡ asked_of self.now.title.now self.now.kind.now self.now.value.now }
+        ensures entry_bound { IfOk result (λ change. change.entry < entry_count) }
+    {
+        if !is_title(self.title) {
+            return Err(Wrong::NoName);
+        }
+        let Some(entry) = text_names::entry_named(self.title, self.kind) else {
+            return Err(Wrong::NoEntry);
+        };
+        let word = text_values::value_of(Kind::at(entry as usize), self.value);
+        match word {
+            Value::Is(value) => Ok(Change { entry, value }),
+            Value::Not(why) => Err(Wrong::NotValue(why)),
+        }
+    }
+
+    // Says what is wrong with the word that is.
+    pub fn say_wrong(&self, wrong: Wrong, said: &mut [u8; program_outcome::SAID_BYTES]) -> usize
+        ensures { Placed said.old 0 (wrong_text wrong self.now.title.now self.now.kind.now self.now.value.now) said.new result }
+    {
+        match wrong {
+            Wrong::NoName => program_outcome::say(self.title, Remark::NoName, said),
+            Wrong::NoEntry => program_outcome::say(self.kind, Remark::NoEntry, said),
+            Wrong::NotValue(why) => program_refusals::say_trouble(self.value, why, said),
+        }
+    }
+}
+
+// What the changes so far came to: whether one was made, and how many bytes are said of those that were not (so of both, and no Option).
 #[derive(Clone, Copy)]
 pub struct Done {
     pub made: bool,
     pub says: usize,
 }
 
-// The entry and the value that three words name.
-pub fn asked_by(title: &[u8], kind: &[u8], value: &[u8]) -> Asked
-    ensures value { result ≡ asked_of title.now kind.now value.now }
-    ensures result_bound { entry_asked result < entry_count }
-{
-    if text_names::TITLES <= text_names::row_of(title) {
-        return Asked::Unclear(Wrong::NoName);
-    }
-    let entry = text_names::entry_named(title, kind);
-    if entry == text_names::ENTRIES {
-        return Asked::Unclear(Wrong::NoEntry);
-    }
-    let word = text_values::value_of(Kind::at(entry as usize), value);
-    match word {
-        Value::Is(number) => Asked::Change(entry, number),
-        Value::Not(why) => Asked::Unclear(Wrong::NotValue(why)),
-    }
-}
-
-// Says what is wrong with the word that is.
-pub fn say_wrong(
-    wrong: Wrong,
-    title: &[u8],
-    kind: &[u8],
-    value: &[u8],
-    said: &mut [u8; program_outcome::SAID_BYTES],
-) -> usize
-    ensures { Placed said.old 0 (wrong_text wrong title.now kind.now value.now) said.new result }
-{
-    match wrong {
-        Wrong::NoName => program_outcome::say(title, Remark::NoName, said),
-        Wrong::NoEntry => program_outcome::say(kind, Remark::NoEntry, said),
-        Wrong::NotValue(why) => program_refusals::say_trouble(value, why, said),
-    }
-}
-
-fn judge(worksheet: Worksheet, entries: &[u32; ENTRIES]) -> Answer
-    ensures { result ≡ judged_for worksheet entries.now }
-{
-    entries::judge(worksheet, entries)
-}
-
 // Gives an entry its new value, if the entries are acceptable as they would stand.
-fn try_entry(worksheet: Worksheet, entries: &mut [u32; ENTRIES], entry: u32, value: u32) -> Verdict
-    requires { entry < entry_count }
-    ensures value { result ≡ verdict_by (judged_for worksheet (set entries.old entry value)) entry value }
+fn try_entry(
+    worksheet: Worksheet,
+    entries: &mut [u32; ENTRIES],
+    change: Change,
+) -> Result<Change, NotMade>
+    requires { change.entry < entry_count }
+    ensures value { result ≡ verdict_by (judged_for worksheet (set entries.old change.entry change.value)) change }
     ensures entries_after { entries.new ≡ entries_after result entries.old }
 {
     let mut changed = *entries;
-    changed[entry as usize] = value;
-    let answer = judge(worksheet, &changed);
+    changed[change.entry as usize] = change.value;
+    let answer = entries::judge(worksheet, &changed);
     match answer {
         Answer::Accepted => {
             *entries = changed;
-            Verdict::Made(entry, value)
+            Ok(change)
         }
-        Answer::Refused(why, place) => Verdict::Refused(why, place),
+        Answer::Refused(why, place) => Err(NotMade::Refused(why, place)),
     }
 }
 
-// Makes the change that three words ask for, if it can be made.
-fn change(
+// Makes the change that the words ask for, if it can be made.
+fn make_change(
     worksheet: Worksheet,
-    title: &[u8],
-    kind: &[u8],
-    value: &[u8],
+    words: &ChangeWords,
     entries: &mut [u32; ENTRIES],
-) -> Verdict
-    ensures value { result ≡ verdict_of worksheet title.now kind.now value.now entries.old }
+) -> Result<Change, NotMade>
+    ensures value { result ≡ verdict_of worksheet words.now.title.now words.now.kind.now words.now.value.now entries.old }
     ensures entries_after { entries.new ≡ entries_after result entries.old }
 {
-    match asked_by(title, kind, value) {
-        Asked::Change(entry, number) => try_entry(worksheet, entries, entry, number),
-        Asked::Unclear(wrong) => Verdict::Unmade(wrong),
-    }
+    let wanted = words.asked()?;
+    try_entry(worksheet, entries, wanted)
 }
 
-// Word j of change n.
-fn word_of(words: &[u8], n: usize, j: usize) -> &[u8]
-    requires { (n < most_changes) × (j < change_words) }
-    ensures { result.now ≡ word_of_change words.now n j }
-{
-    program_words::word(words, CHANGES_FROM + CHANGE_WORDS * n + j)
-}
-
-// Makes change n, if it can be made.
-fn change_in(worksheet: Worksheet, words: &[u8], n: usize, entries: &mut [u32; ENTRIES]) -> Verdict
+// The words of change n.
+fn words_of(words: &[u8], n: usize) -> ChangeWords<'_>
     requires { n < most_changes }
-    ensures value { result ≡ verdict_in worksheet words.now n entries.old }
-    ensures entries_after { entries.new ≡ entries_after result entries.old }
+    ensures title { result.title.now ≡ title_in words.now n }
+    ensures kind { result.kind.now ≡ kind_in words.now n }
+    ensures value { result.value.now ≡ value_in words.now n }
 {
-    let title = word_of(words, n, TITLE);
-    let kind = word_of(words, n, KIND);
-    change(worksheet, title, kind, word_of(words, n, VALUE), entries)
-}
-
-fn is_made(verdict: Verdict) -> bool
-    ensures { result ≡ is_made verdict }
-{
-    match verdict {
-        Verdict::Made(_, _) => true,
-        Verdict::Refused(_, _) => false,
-        Verdict::Unmade(_) => false,
+    let from = CHANGES_FROM + CHANGE_WORDS * n;
+    ChangeWords {
+        title: program_words::word(words, from + TITLE),
+        kind: program_words::word(words, from + KIND),
+        value: program_words::word(words, from + VALUE),
     }
-}
-
-// Says which word of change n is wrong.
-fn say_wrong_in(
-    wrong: Wrong,
-    words: &[u8],
-    n: usize,
-    said: &mut [u8; program_outcome::SAID_BYTES],
-) -> usize
-    requires { n < most_changes }
-    ensures { Placed said.old 0 (wrong_in wrong words.now n) said.new result }
-{
-    let title = word_of(words, n, TITLE);
-    let kind = word_of(words, n, KIND);
-    say_wrong(wrong, title, kind, word_of(words, n, VALUE), said)
 }
 
 // Says why a change was not made.
-fn say_verdict(
-    verdict: Verdict,
-    words: &[u8],
-    n: usize,
-    said: &mut [u8; program_outcome::SAID_BYTES],
-) -> usize
-    requires { n < most_changes }
-    ensures { Placed said.old 0 (verdict_text verdict words.now n) said.new result }
+fn say_why(why: NotMade, words: &ChangeWords, said: &mut [u8; program_outcome::SAID_BYTES]) -> usize
+    ensures { Placed said.old 0 (why_text why words.now.title.now words.now.kind.now words.now.value.now) said.new result }
 {
-    match verdict {
-        Verdict::Made(_, _) => 0,
-        Verdict::Refused(why, place) => {
+    match why {
+        NotMade::Unclear(wrong) => words.say_wrong(wrong, said),
+        NotMade::Refused(why, place) => {
             program_refusals::say_answer(Answer::Refused(why, place), said)
         }
-        Verdict::Unmade(wrong) => say_wrong_in(wrong, words, n, said),
     }
 }
 
@@ -230,39 +206,58 @@ pub fn put_sentence(
     text::put_bytes(out, at, program_outcome::front(sentence, size))
 }
 
-// Puts what is said of a change past its heading.
-fn put_verdict(out: &mut [u8], at: usize, verdict: Verdict, words: &[u8], n: usize) -> usize
-    requires { (at + verdict_most ≤ length out.old) × (n < most_changes) }
-    ensures { Placed out.old at (verdict_text verdict words.now n) out.new result × (result ≤ at + verdict_most) }
+// Puts why a change was not made past its heading.
+fn put_why(out: &mut [u8], at: usize, why: NotMade, words: &ChangeWords) -> usize
+    requires { at + verdict_most ≤ length out.old }
+    ensures { Placed out.old at (why_text why words.now.title.now words.now.kind.now words.now.value.now) out.new result
+        × (result ≤ at + verdict_most) }
 {
     let mut sentence = [0u8; program_outcome::SAID_BYTES];
-    let size = say_verdict(verdict, words, n, &mut sentence);
+    let size = say_why(why, words, &mut sentence);
     put_sentence(out, at, &sentence, size)
 }
 
-// Tells of a change that was not made.
-fn tell(out: &mut [u8], at: usize, several: bool, words: &[u8], n: usize, verdict: Verdict) -> usize
+// Tells of change n, which was not made.
+fn tell(
+    out: &mut [u8],
+    at: usize,
+    several: bool,
+    n: usize,
+    why: NotMade,
+    words: &ChangeWords,
+) -> usize
     requires { (at + sentence_most ≤ length out.old) × (n < most_changes) }
-    ensures { Placed out.old at (told several words.now n verdict) out.new result × (result ≤ at + sentence_most) }
+    ensures { Placed out.old at (heading several n ++ why_text why words.now.title.now words.now.kind.now words.now.value.now)
+        out.new result × (result ≤ at + sentence_most) }
 {
-    if is_made(verdict) {
-        return at;
-    }
     let headed = put_heading(out, at, several, n);
-    put_verdict(out, headed, verdict, words, n)
+    put_why(out, headed, why, words)
 }
 
-// Counts change n as made, or tells why it was not.
-fn step(words: &[u8], n: usize, several: bool, verdict: Verdict, said: &mut [u8], so: Done) -> Done
+// Makes change n and counts it as made, or tells why it is not.
+fn step(
+    worksheet: Worksheet,
+    words: &[u8],
+    n: usize,
+    several: bool,
+    entries: &mut [u32; ENTRIES],
+    said: &mut [u8],
+    so: Done,
+) -> Done
     requires { (so.says + sentence_most ≤ length said.old) × (n < most_changes) }
-    ensures made_value { result.made ≡ so.made || is_made verdict }
-    ensures placed { Placed said.old so.says (told several words.now n verdict) said.new result.says
-        × (result.says ≤ so.says + sentence_most) }
+    ensures { Stepped so (verdict_in worksheet words.now n entries.old) several words.now n
+        entries.old entries.new said.old said.new result }
 {
-    let says = tell(said, so.says, several, words, n, verdict);
-    Done {
-        made: so.made || is_made(verdict),
-        says,
+    let asked = words_of(words, n);
+    match make_change(worksheet, &asked, entries) {
+        Ok(_) => Done {
+            made: true,
+            says: so.says,
+        },
+        Err(why) => Done {
+            made: so.made,
+            says: tell(said, so.says, several, n, why, &asked),
+        },
     }
 }
 
@@ -282,11 +277,8 @@ fn change_each(
         made: false,
         says: 0,
     };
-    let mut n: usize = 0;
-    while n < changes {
-        let verdict = change_in(worksheet, words, n, entries);
-        so = step(words, n, several, verdict, said, so);
-        n += 1;
+    for n in 0..changes {
+        so = step(worksheet, words, n, several, entries, said, so);
     }
     so
 }

@@ -6,8 +6,7 @@ use Rattle.text.specs.Text.{ascii}
 use Rattle.text_refusals.specs.Refusals.{refusal_text}
 use Rattle.study.specs.Study.{site_limit, judgement, count_of, converted}
 use Rattle.program_words.specs.Words.{word_at}
-use Rattle.program_outcome.specs.declared.Input.{Input}
-use Rattle.program_outcome.specs.Outcome.{Outcome, writing, saying, named, with_file}
+use Rattle.program_outcome.specs.Outcome.{Input, Outcome, writing, saying, named, with_file}
 
 -- what is said of a study of before with more sites than are written
 unfoldable pub many_text : List ℕ

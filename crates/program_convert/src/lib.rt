@@ -76,18 +76,14 @@ fn convert_file(
 {
     let answer = study::check(file);
     let Answer::Accepted = answer else {
-        return program_outcome::only_said(program_refusals::say_answer_of(name, answer, said));
+        return Lengths::said(program_refusals::say_answer_of(name, answer, said));
     };
     let sites = study::count(file);
     if study::MOST_SITES < sites as usize {
-        return program_outcome::only_said(say_many(name, said));
+        return Lengths::said(say_many(name, said));
     }
     let writes = convert(file, sites, written);
-    Lengths {
-        prints: 0,
-        writes,
-        says: 0,
-    }
+    Lengths::written(writes)
 }
 
 // What `icustudy convert` gives; its study was read into the area.
@@ -102,8 +98,8 @@ pub fn run(
     ensures placed { Placed written.old 0 (convert_run input words.now area.now).writes written.new result.writes }
 {
     let name = program_words::word(words, STUDY);
-    let Input::Read(size) = input else {
-        return program_outcome::only_said(program_outcome::say(name, Remark::Unread, said));
+    let Some(size) = input else {
+        return Lengths::said(program_outcome::say(name, Remark::Unread, said));
     };
     convert_file(name, program_outcome::front(area, size), written, said)
 }

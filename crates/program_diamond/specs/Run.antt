@@ -15,8 +15,7 @@ use Rattle.program_words.specs.Words.{word_at}
 use Rattle.program_wish.specs.Wish.{wish_of, version_text}
 use Rattle.program_wish.specs.declared.Wish.{Wish}
 use Rattle.program_wish.specs.declared.Wish.TheVariants.{Help, Version, Work}
-use Rattle.program_outcome.specs.declared.Input.{Input}
-use Rattle.program_outcome.specs.Outcome.{Outcome, printing, saying, named}
+use Rattle.program_outcome.specs.Outcome.{Input, Outcome, printing, saying, named}
 use Rattle.program_heading.specs.Headings.{diamond_heading}
 use Rattle.program_record.specs.declared.Files.{Files}
 use Rattle.program_record.specs.Arguments.{◌or_else◌, is_nothing, bytes_of, west_word, east_word, own_from, own_count, own_word, arguments_say, record_of}

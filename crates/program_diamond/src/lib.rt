@@ -8,6 +8,7 @@ ghost use Rattle.diamond_page.specs.Page.{diamond_text, page_bytes};
 ghost use Rattle.text.specs.Text.{Placed};
 ghost use Rattle.program_heading.specs.Working.{diamond_most};
 ghost use Rattle.program_outcome.specs.Outcome.{Left};
+ghost use Rattle.program_outcome.specs.Working.{lengths_of};
 ghost use Rattle.program_record.specs.Arguments.{record_of};
 ghost use Rattle.program_record.specs.Working.{Made};
 ghost use Rattle.program_diamond.specs.Run.{diamond_takes, diamond_use, refusal_says, refused_says, diamond_says};
@@ -79,14 +80,14 @@ fn judge(
     numbers: &[u32; RECORD],
     all: &mut [u32; DIAMOND_PAGE],
     said: &mut [u8; SAID_BYTES],
-) -> usize
+) -> Result<(), usize>
     ensures { Made (refused_says (judged_record numbers.now) words.now) said.old said.new
         (page_numbers numbers.now) all.new result }
 {
     let answer = diamond_beside::fill(numbers, all);
     match answer {
-        Answer::Accepted => 0,
-        Answer::Refused(why, place) => say_refusal(words, why, place, said),
+        Answer::Accepted => Ok(()),
+        Answer::Refused(why, place) => Err(say_refusal(words, why, place, said)),
     }
 }
 
@@ -98,15 +99,12 @@ fn collect(
     east: &[u8; AREA_BYTES],
     all: &mut [u32; DIAMOND_PAGE],
     said: &mut [u8; SAID_BYTES],
-) -> usize
+) -> Result<(), usize>
     ensures { Made (diamond_says files words.now west.now east.now) said.old said.new
         (page_numbers (record_of files words.now west.now east.now)) all.new result }
 {
     let mut numbers = [0u32; RECORD];
-    let says = program_record::gather(files, words, west, east, &mut numbers, said);
-    if says != 0 {
-        return says;
-    }
+    program_record::gather(files, words, west, east, &mut numbers, said)?;
     judge(words, &numbers, all, said)
 }
 
@@ -127,13 +125,11 @@ fn put_heading(
     ensures { Placed heading.old 0 (heading_of files words.now west.now east.now) heading.new result
         × (result ≤ diamond_most) }
 {
-    let first = files.west;
-    let second = files.east;
     program_heading::head_diamond(
         program_words::word(words, WEST),
-        title_in(first, west),
+        title_in(files.west, west),
         program_words::word(words, EAST),
-        title_in(second, east),
+        title_in(files.east, east),
         heading,
     )
 }
@@ -185,16 +181,14 @@ fn give(
     east: &[u8; AREA_BYTES],
     printed: &mut [u8; PRINTED_BYTES],
     said: &mut [u8; SAID_BYTES],
-) -> Lengths
+) -> Result<Lengths, usize>
     ensures { Left (diamond_of files words.now west.now east.now)
-        printed.old said.old printed.new said.new result }
+        printed.old said.old printed.new said.new (lengths_of result) }
 {
     let mut all = [0u32; DIAMOND_PAGE];
-    let says = collect(files, words, west, east, &mut all, said);
-    if says != 0 {
-        return program_outcome::only_said(says);
-    }
-    program_outcome::only_printed(print(files, words, west, east, &all, printed))
+    collect(files, words, west, east, &mut all, said)?;
+    let prints = print(files, words, west, east, &all, printed);
+    Ok(Lengths::printed(prints))
 }
 
 fn work(
@@ -209,10 +203,9 @@ fn work(
         printed.old said.old printed.new said.new result }
 {
     if !takes(call.arguments) {
-        return program_outcome::only_said(put_use(said));
+        return Lengths::said(put_use(said));
     }
-    let files = call.files;
-    give(files, words, west, east, printed, said)
+    Lengths::of(give(call.files, words, west, east, printed, said))
 }
 
 // What `icudiamond` gives; the texts were read into the areas west and east.
@@ -228,8 +221,8 @@ pub fn run(
         printed.old said.old printed.new said.new result }
 {
     match program_wish::wish_of(call.arguments, program_words::word(words, WEST)) {
-        Wish::Help => program_outcome::only_printed(put_use(printed)),
-        Wish::Version => program_outcome::only_printed(program_wish::put_version(printed)),
+        Wish::Help => Lengths::printed(put_use(printed)),
+        Wish::Version => Lengths::printed(program_wish::put_version(printed)),
         Wish::Work => work(call, words, west, east, printed, said),
     }
 }

@@ -45,12 +45,10 @@ fn put_shown(out: &mut [u8], at: usize, name: &[u8]) -> usize
     requires { at + length name.now ≤ length out.old }
     ensures { Placed out.old at (shown name.now) out.new result × (result ≡ at + length name.now) }
 {
-    let mut i: usize = 0;
-    while i < name.len() {
+    for i in 0..name.len() {
         text::put_byte(out, at + i, shown_byte(name[i]));
-        i += 1;
     }
-    at + i
+    at + name.len()
 }
 
 fn put_name(out: &mut [u8], at: usize, name: &[u8]) -> usize
@@ -86,16 +84,6 @@ fn put_worksheet(kind: Worksheet, out: &mut [u8], at: usize) -> usize
     text::put_bytes(out, at, b"single point: ")
 }
 
-fn put_text_heading(kind: Worksheet, out: &mut [u8], name: &[u8], title: &[u8]) -> usize
-    requires { heading_most ≤ length out.old }
-    ensures { Placed out.old 0 (text_heading kind name.now title.now) out.new result × (result ≤ heading_most) }
-{
-    let begun = put_worksheet(kind, out, 0);
-    let named = put_name(out, begun, name);
-    let told = put_titled(out, named, title);
-    text::put_bytes(out, told, b"\n\n")
-}
-
 fn put_site_title(out: &mut [u8], at: usize, name: &[u8], site: u32) -> usize
     requires { (at + site_title_most ≤ length out.old) × (site + 1 < too_large) }
     ensures { Placed out.old at (site_title name.now site) out.new result × (result ≤ at + site_title_most) }
@@ -123,16 +111,6 @@ fn put_begin(kind: Worksheet, out: &mut [u8], spot: Spot) -> usize
     put_worksheet(kind, out, fed)
 }
 
-fn put_site_heading(kind: Worksheet, out: &mut [u8], name: &[u8], spot: Spot) -> usize
-    requires { (heading_most ≤ length out.old) × (spot.site + 1 < too_large) }
-    ensures { Placed out.old 0 (site_heading kind name.now spot) out.new result × (result ≤ heading_most) }
-{
-    let begun = put_begin(kind, out, spot);
-    let told = put_site_title(out, begun, name, spot.site);
-    let counted = text_phrases::put_numbered(out, told, b" of ", spot.sites);
-    text::put_bytes(out, counted, b"\n\n")
-}
-
 // Puts the line of a diamond's junction: which it is, the text's name and its title.
 fn put_side(out: &mut [u8], at: usize, side: &[u8], name: &[u8], title: &[u8]) -> usize
     requires { (at + side_line_most ≤ length out.old) × (length side.now ≤ side_most) }
@@ -142,23 +120,6 @@ fn put_side(out: &mut [u8], at: usize, side: &[u8], name: &[u8], title: &[u8]) -
     let told = text::put_bytes(out, at, side);
     let named = put_name(out, told, name);
     put_titled(out, named, title)
-}
-
-fn put_diamond(
-    out: &mut [u8],
-    west: &[u8],
-    westtitle: &[u8],
-    east: &[u8],
-    easttitle: &[u8],
-) -> usize
-    requires { diamond_most ≤ length out.old }
-    ensures { Placed out.old 0
-        (diamond_heading west.now westtitle.now east.now easttitle.now) out.new result
-        × (result ≤ diamond_most) }
-{
-    let first = put_side(out, 0, b"west: ", west, westtitle);
-    let both = put_side(out, first, b"\neast: ", east, easttitle);
-    text::put_bytes(out, both, b"\n\n")
 }
 
 // The heading of the sheet of a text: its name, and its title if it has one.
@@ -171,7 +132,10 @@ pub fn head_text(
     ensures { Placed heading.old 0 (text_heading kind name.now title.now) heading.new result
         × (result ≤ heading_most) }
 {
-    put_text_heading(kind, heading, name, title)
+    let begun = put_worksheet(kind, heading, 0);
+    let named = put_name(heading, begun, name);
+    let told = put_titled(heading, named, title);
+    text::put_bytes(heading, told, b"\n\n")
 }
 
 // What a refusal is said of: a site of a study.
@@ -192,7 +156,10 @@ pub fn head_site(
     requires { spot.site + 1 < too_large }
     ensures { Placed heading.old 0 (site_heading kind name.now spot) heading.new result × (result ≤ heading_most) }
 {
-    put_site_heading(kind, heading, name, spot)
+    let begun = put_begin(kind, heading, spot);
+    let told = put_site_title(heading, begun, name, spot.site);
+    let counted = text_phrases::put_numbered(heading, told, b" of ", spot.sites);
+    text::put_bytes(heading, counted, b"\n\n")
 }
 
 // The heading of a diamond's sheet: of each junction the name of its text, and the title if it has one.
@@ -207,5 +174,7 @@ pub fn head_diamond(
         (diamond_heading west.now westtitle.now east.now easttitle.now) heading.new result
         × (result ≤ diamond_most) }
 {
-    put_diamond(heading, west, westtitle, east, easttitle)
+    let first = put_side(heading, 0, b"west: ", west, westtitle);
+    let both = put_side(heading, first, b"\neast: ", east, easttitle);
+    text::put_bytes(heading, both, b"\n\n")
 }

@@ -10,7 +10,7 @@ ghost use Rattle.program_outcome.specs.Outcome.{word_most};
 ghost use Rattle.io.specs.Counts.{IsPrefixLen};
 ghost use Rattle.program_io.specs.Input.{Within, Reads, ReadsOnce, beside_most};
 
-use program_outcome::{AREA_BYTES, Input, Remark, SAID_BYTES, WORD_BYTES};
+use program_outcome::{AREA_BYTES, Input, Lengths, Remark, SAID_BYTES, WORD_BYTES};
 use program_target::Found;
 use std::env::FillError;
 use std::fs::{OpenFile, OpenOptions};
@@ -66,8 +66,8 @@ fn take_word(env: &impl Env, words: &mut [u8], at: usize, argument: usize) -> us
     past + 1
 }
 
-// Takes the arguments after the program's own name, as many as there is room for; how many bytes they are.
-pub fn take_words(env: &impl Env, words: &mut [u8]) -> usize
+// Puts the arguments after the program's own name into the area, as many as there is room for; how many bytes they are.
+fn put_words(env: &impl Env, words: &mut [u8]) -> usize
     ensures { result ≤ length words.new }
 {
     let count = count_arguments(env);
@@ -81,14 +81,22 @@ pub fn take_words(env: &impl Env, words: &mut [u8]) -> usize
     at
 }
 
+// The arguments after the program's own name, put into the area.
+pub fn take_words<'a>(env: &impl Env, words: &'a mut [u8]) -> &'a [u8]
+    ensures { length result.now ≤ length words.old }
+{
+    let size = put_words(env, words);
+    &words[..size]
+}
+
 // One read, into the front of the lent bytes.
 fn read_once<F: Read>(file: &mut F, area: &mut [u8]) -> Input
     ensures within { Within result (length area.new) }
     ensures bytes { ReadsOnce result (F.remaining file.old) (F.remaining file.new) area.new }
 {
     match file.read(area) {
-        Ok(count) => Input::Read(count),
-        Err(_) => Input::Failed,
+        Ok(count) => Some(count),
+        Err(_) => None,
     }
 }
 
@@ -98,65 +106,54 @@ pub fn read_open<F: Read>(file: &mut F, area: &mut [u8]) -> Input
     ensures bytes { Reads result (F.remaining file.old) (F.remaining file.new) area.new }
 {
     let mut done: usize = 0;
+    // A `while`: how far each read goes is the reader's to say, and no range counts it.
     while done < area.len() {
-        let input = read_once(file, &mut area[done..]);
-        let Input::Read(count) = input else {
-            return input;
-        };
+        let count = read_once(file, &mut area[done..])?;
         if count == 0 {
-            return Input::Read(done);
+            return Some(done);
         }
         done += count;
     }
-    Input::Read(done)
+    Some(done)
 }
 
 pub fn read_named(files: &impl Files, path: &[u8], area: &mut [u8]) -> Input
     ensures { Within result (length area.new) }
 {
-    let Ok(path) = str::from_utf8(path) else {
-        return Input::Failed;
-    };
-    let Ok(mut file) = fs::open(files, path) else {
-        return Input::Failed;
-    };
+    let path = str::from_utf8(path).ok()?;
+    let mut file = fs::open(files, path).ok()?;
     read_open(&mut file, area)
 }
 
 fn is_link(files: &impl Files, name: &str) -> bool {
-    match fs::symlink_metadata(files, name) {
-        Ok(found) => found.is_symlink(),
-        Err(_) => false,
-    }
+    fs::symlink_metadata(files, name).is_ok_and(|found| found.is_symlink())
 }
 
 // Reads a file that was opened at its start; what has no start is no file, and reading it could wait for ever.
 fn find_open<F: Read + Seek>(file: &mut F, area: &mut [u8]) -> Found {
     let Ok(0) = file.stream_position() else {
-        return Found::Closed;
+        return Err(Remark::Unwritten);
     };
-    let Input::Read(size) = read_open(file, area) else {
-        return Found::Closed;
-    };
-    Found::Bytes(size)
+    let size = read_open(file, area).ok_or(Remark::Unwritten)?;
+    Ok(Some(size))
 }
 
 // What there is where a file is to be written; it stays as it is. It is opened for writing, too, since it may be protected.
 // No file has a name of no bytes.
 pub fn find(files: &impl Files, name: &[u8], area: &mut [u8]) -> Found {
     if name.is_empty() {
-        return Found::Closed;
+        return Err(Remark::Unwritten);
     }
     let Ok(name) = str::from_utf8(name) else {
-        return Found::Closed;
+        return Err(Remark::Unwritten);
     };
     if is_link(files, name) {
-        return Found::Link;
+        return Err(Remark::IsLink);
     }
     match OpenOptions::new().read(true).write(true).open(files, name) {
         Ok(mut file) => find_open(&mut file, area),
-        Err(e) if e.kind() == ErrorKind::NotFound => Found::Absent,
-        Err(_) => Found::Closed,
+        Err(e) if e.kind() == ErrorKind::NotFound => Ok(None),
+        Err(_) => Err(Remark::Unwritten),
     }
 }
 
@@ -165,9 +162,13 @@ fn is_free(files: &impl Files, err: &impl Print, name: &[u8], whole: bool) -> bo
     let mut area = [0u8; AREA_BYTES];
     let mut said = [0u8; SAID_BYTES];
     let found = find(files, name, &mut area);
-    let says = program_target::judge(found, name, &area, whole, &mut said);
-    say(err, &said, says);
-    says == 0
+    match program_target::judge(found, name, &area, whole, &mut said) {
+        Ok(()) => true,
+        Err(says) => {
+            say(err, &said, says);
+            false
+        }
+    }
 }
 
 // The ending of a new file's name, `.part` and a digit.
@@ -229,29 +230,25 @@ fn fill_and_close<F: Write + OpenFile + Drop>(mut file: F, bytes: &[u8]) -> bool
     fill(&mut file, bytes)
 }
 
-// Writes the bytes to a new file beside, under the first name that is free; its number, or how many there are where it cannot
-// be written whole, and then it is not left there.
-fn write_beside(files: &impl Files, name: &[u8], bytes: &[u8]) -> u32 {
+// Writes the bytes to a new file beside, under the first name that is free; that name's ending. None where the file cannot be
+// written whole, and then it is not left there.
+fn write_beside(files: &impl Files, name: &[u8], bytes: &[u8]) -> Option<[u8; ENDING_BYTES]> {
     for number in 0..PARTS {
         let ending = part(number);
         if let Ok(file) = make_beside(files, name, &ending) {
             if fill_and_close(file, bytes) {
-                return number;
+                return Some(ending);
             }
             remove_beside(files, name, &ending);
-            return PARTS;
+            return None;
         }
     }
-    PARTS
+    None
 }
 
-// Writes the front of an area, and answers whether all was written.
-pub fn put_out(out: &impl Print, area: &[u8], size: usize) -> bool {
-    out.write_all(program_outcome::front(area, size)).is_ok()
-}
-
-pub fn say(err: &impl Print, said: &[u8; SAID_BYTES], size: usize) {
-    put_out(err, said, size);
+// Says the front of an area, if it can be said.
+pub fn say(err: &impl Print, said: &[u8], size: usize) {
+    let _ = err.write_all(program_outcome::front(said, size));
 }
 
 fn say_of(err: &impl Print, word: &[u8], remark: Remark) {
@@ -260,13 +257,32 @@ fn say_of(err: &impl Print, word: &[u8], remark: Remark) {
     say(err, &said, says);
 }
 
-// Prints the front of an area, and answers whether all was printed; says so where it was not.
-pub fn print(out: &impl Print, err: &impl Print, program: &[u8], area: &[u8], size: usize) -> bool {
-    if put_out(out, area, size) {
+// Prints, and answers whether all was printed; says so where it was not.
+fn print(out: &impl Print, err: &impl Print, program: &[u8], printed: &[u8]) -> bool {
+    if out.write_all(printed).is_ok() {
         return true;
     }
     say_of(err, program, Remark::NoOutput);
     false
+}
+
+// Prints and says what a run gives, and answers whether all was printed.
+pub fn put_out(
+    out: &impl Print,
+    err: &impl Print,
+    program: &[u8],
+    lengths: Lengths,
+    printed: &[u8],
+    said: &[u8],
+) -> bool {
+    let is_printed = print(
+        out,
+        err,
+        program,
+        program_outcome::front(printed, lengths.prints),
+    );
+    say(err, said, lengths.says);
+    is_printed
 }
 
 // Puts a file that was written beside in its place, once what there is to print is printed; else it is removed.
@@ -278,7 +294,7 @@ fn settle<R: Files + Print>(
     ending: &[u8],
     printed: &[u8],
 ) {
-    if !print(rt, err, program, printed, printed.len()) {
+    if !print(rt, err, program, printed) {
         remove_beside(rt, name, ending);
         return;
     }
@@ -301,18 +317,17 @@ pub fn give<R: Files + Print>(
     whole: bool,
 ) {
     if written.is_empty() {
-        print(rt, err, program, printed, printed.len());
+        print(rt, err, program, printed);
         return;
     }
     if !is_free(rt, err, name, whole) {
         return;
     }
-    let number = write_beside(rt, name, written);
-    if number == PARTS {
+    let Some(ending) = write_beside(rt, name, written) else {
         say_of(err, name, Remark::Unwritten);
         return;
-    }
-    settle(rt, err, program, name, &part(number), printed);
+    };
+    settle(rt, err, program, name, &ending, printed);
 }
 
 // Says of a lock that it stands.
@@ -365,7 +380,7 @@ pub fn settle_lock<R: Files + Print>(
 ) {
     if written.is_empty() {
         drop_lock(rt, name, file);
-        print(rt, err, program, printed, printed.len());
+        print(rt, err, program, printed);
         return;
     }
     if !fill_and_close(file, written) {
@@ -403,9 +418,9 @@ mod tests {
     fn a_read_that_fails_in_mid_stream_is_told(rt: HostRuntime) -> Result<(), Fail> {
         let mut area = [0u8; 10];
         let input = read_open(&mut Failing { left: 2 }, &mut area);
-        assert!(rt; matches!(input, Input::Failed), "a failure is told");
+        assert!(rt; matches!(input, None), "a failure is told");
         let input = read_open(&mut Failing { left: 4 }, &mut area);
-        assert!(rt; matches!(input, Input::Read(10)), "the area is filled");
+        assert!(rt; matches!(input, Some(10)), "the area is filled");
         Ok(())
     }
 }

@@ -1,5 +1,5 @@
 -- What `iculist` gives: the listing of the study file that was read, or what is said.
-use Rattle.std.specs.Prelude.{ℕ, Bool, cond, List, ◌++◌, take, eqb}
+use Rattle.std.specs.Prelude.{ℕ, Bool, cond, List, ◌++◌, take, eqb, Some, None}
 use Rattle.text.specs.Text.{ascii}
 use Rattle.study_listing.specs.Listing.{listing}
 use Rattle.program_words.specs.Words.{word_at}
@@ -7,10 +7,8 @@ use Rattle.program_wish.specs.Wish.{wish_of, version_text}
 use Rattle.program_wish.specs.declared.Wish.{Wish}
 use Rattle.program_wish.specs.declared.Wish.TheVariants.{Help, Version, Work}
 use Rattle.program_outcome.specs.declared.Call.{Call}
-use Rattle.program_outcome.specs.declared.Input.{Input}
-use Rattle.program_outcome.specs.declared.Input.TheVariants.{Read, Failed}
 use Rattle.program_outcome.specs.declared.Remark.TheVariants.{Unread, NoInput}
-use Rattle.program_outcome.specs.Outcome.{Outcome, is_either, printing, saying, remarked}
+use Rattle.program_outcome.specs.Outcome.{Input, Outcome, is_either, printing, saying, remarked}
 
 unfoldable pub list_name : List ℕ
 list_name = ascii "iculist"
@@ -33,8 +31,8 @@ unread count words = cond (list_named count) (remarked (word_at words 0) Unread)
 
 -- the listing of what was read into the area
 unfoldable pub list_read : ℕ → Input → List ℕ → List ℕ → Outcome
-list_read count (Read size) words area = printing (listing (take size area))
-list_read count Failed words area = saying (unread count words)
+list_read count (Some size) words area = printing (listing (take size area))
+list_read count None words area = saying (unread count words)
 
 -- by what is wished for
 abbrev pub list_for : Wish → Call → List ℕ → List ℕ → Outcome

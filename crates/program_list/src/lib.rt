@@ -8,10 +8,10 @@ ghost use Rattle.program_outcome.specs.Outcome.{Left};
 ghost use Rattle.program_list.specs.Run.{list_use, list_takes, list_named, unread, list_read, list_run};
 ghost use Rattle.program_list.specs.Working.{use_most};
 
-use program_outcome::{AREA_BYTES, Call, Input, Lengths, Remark, SAID_BYTES};
+use program_outcome::{AREA_BYTES, Call, Lengths, Remark, SAID_BYTES};
 use program_wish::Wish;
 
-// Room for what is printed.
+// Room for what is printed; how much of it is used stands beside it, since there is no heap.
 pub const PRINTED_BYTES: usize = study_listing::AREA_BYTES;
 
 // The number of arguments, with a study on standard input; with a study's name.
@@ -45,6 +45,7 @@ fn print_listing(file: &[u8], printed: &mut [u8; PRINTED_BYTES]) -> usize
     written as usize
 }
 
+#[tactic(auto, unfolding(crate::specs::Run::list_use, text::specs::Text::ascii))]
 fn put_use(out: &mut [u8]) -> usize
     requires { use_most ≤ length out.old }
     ensures { Placed out.old 0 list_use out.new result }
@@ -57,6 +58,7 @@ fn put_use(out: &mut [u8]) -> usize
     )
 }
 
+#[tactic(auto, unfolding(crate::specs::Run::unread, crate::specs::Run::list_name, text::specs::Text::ascii))]
 fn say_unread(count: usize, words: &[u8], said: &mut [u8; SAID_BYTES]) -> usize
     ensures { Placed said.old 0 (unread count words.now) said.new result }
 {
@@ -77,16 +79,11 @@ fn list_read(
     ensures { Left (list_read call.arguments call.input words.now area.now)
         printed.old said.old printed.new said.new result }
 {
-    let input = call.input;
-    let Input::Read(size) = input else {
-        return program_outcome::only_said(say_unread(call.arguments, words, said));
+    let Some(size) = call.input else {
+        return Lengths::said(say_unread(call.arguments, words, said));
     };
     let prints = print_listing(program_outcome::front(area, size), printed);
-    Lengths {
-        prints,
-        writes: 0,
-        says: 0,
-    }
+    Lengths::printed(prints)
 }
 
 // What `iculist` gives; its study was read into the area.
@@ -101,27 +98,13 @@ pub fn run(
         printed.old said.old printed.new said.new result }
 {
     match program_wish::wish_of(call.arguments, program_words::word(words, NAME)) {
-        Wish::Help => {
-            let prints = put_use(printed);
-            Lengths {
-                prints,
-                writes: 0,
-                says: 0,
-            }
-        }
-        Wish::Version => {
-            let prints = program_wish::put_version(printed);
-            Lengths {
-                prints,
-                writes: 0,
-                says: 0,
-            }
-        }
+        Wish::Help => Lengths::printed(put_use(printed)),
+        Wish::Version => Lengths::printed(program_wish::put_version(printed)),
         Wish::Work => {
             if takes(call.arguments) {
                 return list_read(call, words, area, printed, said);
             }
-            program_outcome::only_said(put_use(said))
+            Lengths::said(put_use(said))
         }
     }
 }

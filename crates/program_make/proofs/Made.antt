@@ -18,15 +18,13 @@ use Rattle.entries.specs.Judging.{judged}
 use Rattle.entries.proofs.Laws.{accepted_count}
 use Rattle.study.specs.Study.{site_limit}
 use Rattle.text.specs.Text.{ascii}
-use Rattle.text_words.specs.declared.Found.{Found}
-use Rattle.text_words.specs.declared.Found.TheVariants.{Well as Fine, Wrong}
+use Rattle.std.specs.Prelude.{Result, Ok, Err}
+use Rattle.text_words.specs.Standing.{Standing}
+use Rattle.text_words.specs.declared.Mistake.{Mistake}
 use Rattle.text_scan.specs.Scanning.{parsed}
-use Rattle.text_reader.specs.Reader.{short_reading, text_most, reading}
-use Rattle.text_reader.specs.declared.Reading.{Reading}
-use Rattle.text_reader.specs.declared.Reading.TheVariants.{Read as Well, Misread, Refused}
-use Rattle.program_outcome.specs.declared.Input.{Input}
-use Rattle.program_outcome.specs.declared.Input.TheVariants.{Read, Failed}
-use Rattle.program_outcome.specs.Outcome.{word_most, opening, named}
+use Rattle.text_reader.specs.Reader.{short_reading, text_most, reading, Reading}
+use Rattle.std.specs.Prelude.{Some, None}
+use Rattle.program_outcome.specs.Outcome.{Input, word_most, opening, named}
 use Rattle.program_make.specs.Make.{said_by, with_site, text_says, text_adds}
 use Rattle.program_make.specs.Steps.{Typed, says_of, typed_in, entries_of, is_nothing, made, Making, step, steps, finished}
 
@@ -35,18 +33,18 @@ never : {A : Type 0} → ◌≡◌ {A = Bool} true false → A
 never e = absurd (let z : ◌≡◌ {A = ℕ} 0 1 = cc in omega arith)
 
 -- a text that is well has as many entries as a junction
-well_judged : (text : List ℕ) → reading Junction text ≡ Well → judged (parsed text).entries ≡ Accepted
+well_judged : (text : List ℕ) → reading Junction text ≡ Ok tt → judged (parsed text).entries ≡ Accepted
 unfolding reading short_reading
-well_judged text e = by (ltb text_most (length text)) refl (parsed text).reader.found refl (judged (parsed text).entries) refl e
+well_judged text e = by (ltb text_most (length text)) refl (parsed text).reader refl (judged (parsed text).entries) refl e
   where
-    by : (b : Bool) → ltb text_most (length text) ≡ b → (f : Found) → (parsed text).reader.found ≡ f → (a : Answer)
+    by : (b : Bool) → ltb text_most (length text) ≡ b → (f : Result Standing Mistake) → (parsed text).reader ≡ f → (a : Answer)
         → judged (parsed text).entries ≡ a
-        → reading Junction text ≡ Well
+        → reading Junction text ≡ Ok tt
         → judged (parsed text).entries ≡ Accepted
     by b long f found Accepted good is = good
     by true long f found (No why place) bad is = absurd (let y = rw long at is in let z : ◌≡◌ {A = ℕ} 0 1 = cc in omega arith)
-    by false long Fine found (No why place) bad is = absurd (let y = rw (long, found, bad) at is in let z : ◌≡◌ {A = ℕ} 0 1 = cc in omega arith)
-    by false long (Wrong w p) found (No why place) bad is = absurd (let y = rw (long, found) at is in let z : ◌≡◌ {A = ℕ} 0 1 = cc in omega arith)
+    by false long (Ok reader) found (No why place) bad is = absurd (let y = rw (long, found, bad) at is in let z : ◌≡◌ {A = ℕ} 0 1 = cc in omega arith)
+    by false long (Err mistake) found (No why place) bad is = absurd (let y = rw (long, found) at is in let z : ◌≡◌ {A = ℕ} 0 1 = cc in omega arith)
 
 -- what is said of a text is something
 something : (front back rest : List ℕ) (byte : ℕ) → is_nothing ((front ++ (byte ∷ back)) ++ rest) ≡ false
@@ -62,15 +60,14 @@ adds : (name : List ℕ) (input : Input) (area : List ℕ) → is_nothing (text_
     → (length (typed_in input area) ≡ entry_count)
     × ((all : List ℕ) (site : ℕ) → text_adds input area site all ≡ with_site all site (typed_in input area))
 unfolding text_says text_adds
-adds name Failed area nothing = never (sym nothing ∙ named_something name _)
-adds name (Read size) area nothing = by (reading Junction (take size area)) refl nothing
+adds name None area nothing = never (sym nothing ∙ named_something name _)
+adds name (Some size) area nothing = by (reading Junction (take size area)) refl nothing
   where
     by : (r : Reading) → reading Junction (take size area) ≡ r → is_nothing (said_by (reading Junction (take size area)) name (take size area)) ≡ true
         → (length (parsed (take size area)).entries ≡ entry_count)
-        × ((all : List ℕ) (site : ℕ) → text_adds (Read size) area site all ≡ with_site all site (parsed (take size area)).entries)
-    by Well is nothing = (accepted_count (parsed (take size area)).entries (well_judged (take size area) is), λ all site. rw is)
-    by (Misread why place) is nothing = never (sym (rw is at nothing) ∙ named_something name _)
-    by (Refused why at place) is nothing = never (sym (rw is at nothing) ∙ named_something name _)
+        × ((all : List ℕ) (site : ℕ) → text_adds (Some size) area site all ≡ with_site all site (parsed (take size area)).entries)
+    by (Ok done) is nothing = (accepted_count (parsed (take size area)).entries (well_judged (take size area) is), λ all site. rw is)
+    by (Err why) is nothing = never (sym (rw is at nothing) ∙ named_something name _)
 
 -- the entries so far, with a site's after them
 one_more : (all entries e : List ℕ) (sites : ℕ) → length e ≡ entry_count → entry_count * (sites + 1) ≤ length all → take (entry_count * sites) all ≡ entries

@@ -1,10 +1,8 @@
 -- All the texts of `icustudy make`: what the whole comes to, and what the calls leave that take text after text.
-use Rattle.std.specs.Prelude.{ℕ, ◌+◌, Bool, true, false, cond, List, [], ◌∷◌, ◌++◌, take}
+use Rattle.std.specs.Prelude.{ℕ, ◌+◌, Bool, true, false, cond, List, [], ◌∷◌, ◌++◌, take, Some, None}
 use Rattle.study.specs.Study.{file_of}
 use Rattle.text_scan.specs.Scanning.{parsed}
-use Rattle.program_outcome.specs.declared.Input.{Input}
-use Rattle.program_outcome.specs.declared.Input.TheVariants.{Read, Failed}
-use Rattle.program_outcome.specs.Outcome.{Outcome, writing, saying}
+use Rattle.program_outcome.specs.Outcome.{Input, Outcome, writing, saying}
 use Rattle.program_make.specs.Make.{text_says, text_adds, study_of}
 
 -- a text's name, what reading its file came to, and the area that it was read into
@@ -17,8 +15,8 @@ abbrev pub says_of : Typed → List ℕ
 says_of t = text_says t.input t.name t.area
 
 abbrev pub typed_in : Input → List ℕ → List ℕ
-typed_in (Read size) area = (parsed (take size area)).entries
-typed_in Failed area = []
+typed_in (Some size) area = (parsed (take size area)).entries
+typed_in None area = []
 
 abbrev pub entries_of : Typed → List ℕ
 entries_of t = typed_in t.input t.area

@@ -1,11 +1,12 @@
 // What `icustudy make` writes and says: a call for each text, and one that makes the file.
 #![tactic(auto)]
 
-ghost use Rattle.std.specs.Prelude.{◌≡◌, ◌*◌, ◌≤◌, length};
+ghost use Rattle.std.specs.Prelude.{◌≡◌, ◌*◌, ◌≤◌, length, ⊤};
 ghost use Rattle.text.specs.Text.{Placed};
 ghost use Rattle.layout.specs.declared.Worksheet.TheVariants.{Junction};
 ghost use Rattle.layout.specs.Entries.{entry_count};
 ghost use Rattle.study.specs.Study.{site_limit, file_of};
+ghost use Rattle.program_outcome.specs.Outcome.{Tells};
 ghost use Rattle.text_reader.specs.Reader.{reading, kept_unless_read};
 ghost use Rattle.text_scan.specs.Scanning.{parsed};
 ghost use Rattle.program_make.specs.Make.{said_by, with_site, text_says, text_adds, study_of};
@@ -13,7 +14,6 @@ ghost use Rattle.program_make.specs.Make.{said_by, with_site, text_says, text_ad
 use layout::{ENTRIES, Worksheet};
 use program_outcome::{AREA_BYTES, Input, Remark, SAID_BYTES};
 use study::MOST_ENTRIES;
-use text_reader::Reading;
 
 // Room for the entries of all sites, and for what is written.
 pub const ALL_ENTRIES: usize = MOST_ENTRIES;
@@ -47,25 +47,23 @@ fn add_text(
     site: u32,
     all: &mut [u32; ALL_ENTRIES],
     said: &mut [u8; SAID_BYTES],
-) -> usize
-    ensures placed { Placed said.old 0 (said_by (reading Junction text.now) name.now text.now)
-        said.new result }
+) -> Result<(), usize>
+    ensures says { Tells (said_by (reading Junction text.now) name.now text.now) said.old said.new (λ _. ⊤) result }
     ensures all_after { all.new
         ≡ kept_unless_read (reading Junction text.now) (with_site all.old site (parsed text.now).entries) all.old }
 {
     let mut entries = [0u32; ENTRIES];
     let reading = text_reader::read(Worksheet::Junction, text, &mut entries);
     match reading {
-        Reading::Read => {
+        Ok(()) => {
             put_entries(all, site, &entries);
-            0
+            Ok(())
         }
-        Reading::Misread(_, _) => program_refusals::say_reading(name, text, reading, said),
-        Reading::Refused(_, _, _) => program_refusals::say_reading(name, text, reading, said),
+        Err(_) => Err(program_refusals::say_reading(name, text, reading, said)),
     }
 }
 
-// Adds the entries of the text in a file that was read into the area; how many bytes are said, none if it is well.
+// Adds the entries of the text in a file that was read into the area, or says what is wrong with it.
 pub fn add(
     name: &[u8],
     input: Input,
@@ -73,12 +71,12 @@ pub fn add(
     site: u32,
     all: &mut [u32; ALL_ENTRIES],
     said: &mut [u8; SAID_BYTES],
-) -> usize
-    ensures placed { Placed said.old 0 (text_says input name.now area.now) said.new result }
+) -> Result<(), usize>
+    ensures says { Tells (text_says input name.now area.now) said.old said.new (λ _. ⊤) result }
     ensures all_after { all.new ≡ text_adds input area.now site all.old }
 {
-    let Input::Read(size) = input else {
-        return program_outcome::say(name, Remark::Unread, said);
+    let Some(size) = input else {
+        return Err(program_outcome::say(name, Remark::Unread, said));
     };
     add_text(name, program_outcome::front(area, size), site, all, said)
 }

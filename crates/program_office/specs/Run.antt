@@ -1,16 +1,14 @@
 -- What `icuoffice` is asked to do, what it tells at once, and what `icuoffice STUDY new` gives: the file of a new open study, or what
 -- is said.
-use Rattle.std.specs.Prelude.{ℕ, Bool, cond, ◌&&◌, List, [], ◌++◌, eqb}
+use Rattle.std.specs.Prelude.{ℕ, Bool, cond, ◌&&◌, List, [], ◌++◌, eqb, Some, None, Ok, Err}
 use Rattle.text.specs.Text.{ascii}
 use Rattle.open_file.specs.File.{empty_file}
 use Rattle.program_words.specs.Words.{word_at}
 use Rattle.program_wish.specs.Wish.{same, wish_of, version_text}
 use Rattle.program_wish.specs.declared.Wish.{Wish}
 use Rattle.program_wish.specs.declared.Wish.TheVariants.{Help as ForHelp, Version as ForVersion, Work}
-use Rattle.program_outcome.specs.declared.Remark.TheVariants.{Unwritten, IsLink}
 use Rattle.program_outcome.specs.Outcome.{Outcome, printing, writing, saying, named, remarked}
-use Rattle.program_target.specs.declared.Found.{Found}
-use Rattle.program_target.specs.declared.Found.TheVariants.{Absent, Bytes, Link, Closed}
+use Rattle.program_target.specs.Target.{Found}
 use Rattle.program_office.specs.declared.Job.{Job}
 use Rattle.program_office.specs.declared.Job.TheVariants.{New, Add, Amend, Read, Use, Help, Version}
 
@@ -56,7 +54,6 @@ told_of Version = printing version_text
 
 -- a new study, by what was found where it is to stand; what stands there stays
 unfoldable pub start_run : Found → List ℕ → Outcome
-start_run Absent words = writing empty_file
-start_run (Bytes size) words = saying (named (word_at words 0) (ascii "there is such a file, which stays as it is: name another\n"))
-start_run Link words = saying (remarked (word_at words 0) IsLink)
-start_run Closed words = saying (remarked (word_at words 0) Unwritten)
+start_run (Ok None) words = writing empty_file
+start_run (Ok (Some size)) words = saying (named (word_at words 0) (ascii "there is such a file, which stays as it is: name another\n"))
+start_run (Err why) words = saying (remarked (word_at words 0) why)

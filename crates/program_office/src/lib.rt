@@ -11,7 +11,7 @@ ghost use Rattle.program_office.specs.Working.{use_most};
 
 use layout::{BLOCKS, PLACES};
 use open_file::OPEN_BYTES;
-use program_outcome::{Lengths, Remark, SAID_BYTES};
+use program_outcome::{Lengths, SAID_BYTES};
 use program_target::Found;
 use program_wish::Wish;
 
@@ -119,13 +119,13 @@ pub fn tell(job: Job, printed: &mut [u8; TOLD_BYTES], said: &mut [u8; SAID_BYTES
     ensures { Left (told_of job) printed.old said.old printed.new said.new result }
 {
     match job {
-        Job::New => program_outcome::only_said(0),
-        Job::Add => program_outcome::only_said(0),
-        Job::Amend => program_outcome::only_said(0),
-        Job::Read => program_outcome::only_said(0),
-        Job::Use => program_outcome::only_said(put_use(said)),
-        Job::Help => program_outcome::only_printed(put_use(printed)),
-        Job::Version => program_outcome::only_printed(program_wish::put_version(printed)),
+        Job::New => Lengths::said(0),
+        Job::Add => Lengths::said(0),
+        Job::Amend => Lengths::said(0),
+        Job::Read => Lengths::said(0),
+        Job::Use => Lengths::said(put_use(said)),
+        Job::Help => Lengths::printed(put_use(printed)),
+        Job::Version => Lengths::printed(program_wish::put_version(printed)),
     }
 }
 
@@ -150,24 +150,12 @@ pub fn start(
 {
     let name = program_words::word(words, STUDY);
     match found {
-        Found::Absent => {
-            let writes = put_empty(written);
-            Lengths {
-                prints: 0,
-                writes,
-                says: 0,
-            }
-        }
-        Found::Bytes(_) => program_outcome::only_said(program_outcome::put_named(
+        Ok(None) => Lengths::written(put_empty(written)),
+        Ok(Some(_)) => Lengths::said(program_outcome::put_named(
             said,
             name,
             b"there is such a file, which stays as it is: name another\n",
         )),
-        Found::Link => {
-            program_outcome::only_said(program_outcome::say(name, Remark::IsLink, said))
-        }
-        Found::Closed => {
-            program_outcome::only_said(program_outcome::say(name, Remark::Unwritten, said))
-        }
+        Err(why) => Lengths::said(program_outcome::say(name, why, said)),
     }
 }

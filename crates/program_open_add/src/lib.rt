@@ -5,13 +5,14 @@ ghost use Rattle.std.specs.Prelude.{◌<◌};
 ghost use Rattle.layout.specs.Open.{place_count};
 ghost use Rattle.text.specs.Text.{Placed};
 ghost use Rattle.program_outcome.specs.Outcome.{Left};
+ghost use Rattle.program_outcome.specs.Working.{lengths_of};
 ghost use Rattle.program_open.specs.Working.{held};
 ghost use Rattle.program_open_add.specs.Run.{place_text, add_site, open_add_run};
 
 use answers::Answer;
 use layout::ENTRIES;
 use open_file::OPEN_BYTES;
-use program_open::{Opened, STUDY, TEXT};
+use program_open::{OpenStudy, STUDY, TEXT};
 use program_outcome::{AREA_BYTES, Input, Lengths, SAID_BYTES};
 use program_target::Found;
 
@@ -38,37 +39,58 @@ fn put_place(place: u32, printed: &mut [u8; PRINTED_BYTES]) -> usize
 fn add_site(
     words: &[u8],
     entries: &[u32; ENTRIES],
-    opened: Opened,
+    study: &OpenStudy,
     printed: &mut [u8; PRINTED_BYTES],
     written: &mut [u8; OPEN_BYTES],
     said: &mut [u8; SAID_BYTES],
-) -> Lengths
-    ensures left { Left (add_site words.now entries.now (held opened))
-        printed.old said.old printed.new said.new result }
-    ensures placed { Placed written.old 0 (add_site words.now entries.now (held opened)).writes
-        written.new result.writes }
+) -> Result<Lengths, usize>
+    ensures left { Left (add_site words.now entries.now (held study.now))
+        printed.old said.old printed.new said.new (lengths_of result) }
+    ensures placed { Placed written.old 0 (add_site words.now entries.now (held study.now)).writes
+        written.new (lengths_of result).writes }
 {
-    let mut owners = opened.owners;
-    let mut blocks = opened.blocks;
+    let mut added = *study;
     let mut place: u32 = 0;
-    let office = program_open::office_in(words);
-    let answer = open_study::add(&mut owners, &mut blocks, office, entries, &mut place);
+    let answer = open_study::add(
+        &mut added.owners,
+        &mut added.blocks,
+        program_open::office_in(words),
+        entries,
+        &mut place,
+    );
     let Answer::Accepted = answer else {
         let name = program_words::word(words, STUDY);
-        return program_outcome::only_said(program_refusals::say_answer_of(name, answer, said));
-    };
-    let added = Opened {
-        owners,
-        blocks,
-        says: 0,
+        return Err(program_refusals::say_answer_of(name, answer, said));
     };
     let prints = put_place(place, printed);
-    let writes = program_open::write_study(added, written);
-    Lengths {
+    let writes = program_open::write_study(&added, written);
+    Ok(Lengths {
         prints,
         writes,
         says: 0,
-    }
+    })
+}
+
+// Adds the text's junction to the study, or stops where something is said.
+fn add(
+    files: Files,
+    words: &[u8],
+    area: &[u8; AREA_BYTES],
+    text: &[u8; AREA_BYTES],
+    printed: &mut [u8; PRINTED_BYTES],
+    written: &mut [u8; OPEN_BYTES],
+    said: &mut [u8; SAID_BYTES],
+) -> Result<Lengths, usize>
+    ensures left { Left (open_add_run files words.now area.now text.now)
+        printed.old said.old printed.new said.new (lengths_of result) }
+    ensures placed { Placed written.old 0 (open_add_run files words.now area.now text.now).writes
+        written.new (lengths_of result).writes }
+{
+    let study = program_open::study_in(files.study, words, area, said)?;
+    let name = program_words::word(words, TEXT);
+    let mut entries = [0u32; ENTRIES];
+    program_record::take_file(name, files.text, text, &mut entries, said)?;
+    add_site(words, &entries, &study, printed, written, said)
 }
 
 // What the call gives; its study was read into the area, and its text beside it.
@@ -86,17 +108,5 @@ pub fn run(
     ensures placed { Placed written.old 0 (open_add_run files words.now area.now text.now).writes
         written.new result.writes }
 {
-    let found = files.study;
-    let opened = program_open::study_in(program_open::source_found(found), words, area, said);
-    if opened.says != 0 {
-        return program_outcome::only_said(opened.says);
-    }
-    let input = files.text;
-    let mut entries = [0u32; ENTRIES];
-    let name = program_words::word(words, TEXT);
-    let says = program_record::take_file(name, input, text, &mut entries, said);
-    if says != 0 {
-        return program_outcome::only_said(says);
-    }
-    add_site(words, &entries, opened, printed, written, said)
+    Lengths::of(add(files, words, area, text, printed, written, said))
 }

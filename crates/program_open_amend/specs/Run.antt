@@ -1,6 +1,6 @@
 -- What `icuoffice STUDY OFFICE amend SITE NAME ENTRY VALUE` gives: all that changes on the sheet of an office's site where one of its
 -- entries changes, and the study with the changed block; or what is said, the first that applies.
-use Rattle.std.specs.Prelude.{ℕ, List, [], set}
+use Rattle.std.specs.Prelude.{ℕ, List, [], set, Result, Ok, Err}
 use Rattle.layout.specs.declared.Worksheet.TheVariants.{Junction}
 use Rattle.procedure.specs.Sheet.{sheet}
 use Rattle.page.specs.Worksheet.{change_text}
@@ -8,17 +8,16 @@ use Rattle.open_rules.specs.Open.{Study, block_at, amend_site_answer, amended_bl
 use Rattle.open_file.specs.File.{open_file}
 use Rattle.program_words.specs.Words.{word_at}
 use Rattle.program_outcome.specs.Outcome.{Outcome, saying}
-use Rattle.program_target.specs.declared.Found.{Found}
-use Rattle.program_changes.specs.declared.Asked.{Asked}
-use Rattle.program_changes.specs.declared.Asked.TheVariants.{Change, Unclear}
+use Rattle.program_target.specs.Target.{Found}
+use Rattle.program_changes.specs.declared.Change.{Change}
 use Rattle.program_changes.specs.declared.Wrong.{Wrong}
 use Rattle.program_changes.specs.Changes.{asked_of, wrong_text}
 use Rattle.program_amend.specs.Run.{sheet_before}
 use Rattle.program_open.specs.Words.{site_word, name_word, entry_word, value_word, office_in, site_in}
-use Rattle.program_open.specs.Opening.{source_found, study_in, open_says, ◌or_gives◌, if_accepted}
+use Rattle.program_open.specs.Opening.{study_in, open_says, ◌or_gives◌, if_accepted}
 
 -- what three words ask for, as in a change of `icuamend`; and what is said of the one that is wrong
-unfoldable pub change_in : List ℕ → Asked
+unfoldable pub change_in : List ℕ → Result Change Wrong
 change_in words = asked_of (word_at words name_word) (word_at words entry_word) (word_at words value_word)
 
 unfoldable pub wrong_says : Wrong → List ℕ → List ℕ
@@ -40,12 +39,11 @@ amend_site words S i v =
     if_accepted (amend_site_answer S (office_in words) (site_in words) i v) (word_at words site_word)
     (amend_gives S (office_in words) (site_in words) i v)
 
-abbrev pub amend_by : Asked → List ℕ → Study → Outcome
-amend_by (Change i v) words S = amend_site words S i v
-amend_by (Unclear wrong) words S = saying (wrong_says wrong words)
+abbrev pub amend_by : Result Change Wrong → List ℕ → Study → Outcome
+amend_by (Ok change) words S = amend_site words S change.entry change.value
+amend_by (Err wrong) words S = saying (wrong_says wrong words)
 
 -- what is said of the office's word or of the study; or else the site is amended
 unfoldable pub open_amend_run : Found → List ℕ → List ℕ → Outcome
 open_amend_run found words area =
-    let source = source_found found in
-    open_says source words area or_gives amend_by (change_in words) words (study_in source area)
+    open_says found words area or_gives amend_by (change_in words) words (study_in found area)

@@ -7,44 +7,21 @@ ghost use Rattle.layout.specs.declared.Worksheet.TheVariants.{Junction};
 ghost use Rattle.page.specs.Worksheet.{change_text};
 ghost use Rattle.text.specs.Text.{Placed};
 ghost use Rattle.program_outcome.specs.Outcome.{Left};
+ghost use Rattle.program_outcome.specs.Working.{lengths_of};
 ghost use Rattle.program_open.specs.Working.{held};
-ghost use Rattle.program_open_amend.specs.Run.{change_in, wrong_says, amend_site, amend_by, open_amend_run};
+ghost use Rattle.program_open_amend.specs.Run.{change_in, amend_site, amend_by, open_amend_run};
 ghost use Rattle.program_open_amend.specs.Working.{listing};
 
 use answers::Answer;
 use layout::{CELLS, Worksheet};
 use open_file::OPEN_BYTES;
-use program_changes::{Asked, Wrong};
-use program_open::{ENTRY, NAME, Opened, SITE, VALUE};
+use program_changes::{Change, ChangeWords};
+use program_open::{ENTRY, NAME, OpenStudy, SITE, VALUE};
 use program_outcome::{AREA_BYTES, Lengths, SAID_BYTES};
 use program_target::Found;
 
 // Room for what is printed.
 pub const PRINTED_BYTES: usize = program_amend::PRINTED_BYTES;
-
-// An entry, and the value that it is to have.
-#[derive(Clone, Copy)]
-pub struct Change {
-    pub entry: u32,
-    pub value: u32,
-}
-
-// What the words ask for.
-fn change_in(words: &[u8]) -> Asked
-    ensures { result ≡ change_in words.now }
-{
-    let name = program_words::word(words, NAME);
-    let entry = program_words::word(words, ENTRY);
-    program_changes::asked_by(name, entry, program_words::word(words, VALUE))
-}
-
-fn say_wrong(wrong: Wrong, words: &[u8], said: &mut [u8; SAID_BYTES]) -> usize
-    ensures { Placed said.old 0 (wrong_says wrong words.now) said.new result }
-{
-    let name = program_words::word(words, NAME);
-    let entry = program_words::word(words, ENTRY);
-    program_changes::say_wrong(wrong, name, entry, program_words::word(words, VALUE), said)
-}
 
 // Lists what changed since a junction's sheet that was filled, or not.
 fn list_changes(
@@ -62,11 +39,11 @@ fn list_changes(
 // Prints what differs between the sheets of a site in two studies.
 fn print_changes(
     words: &[u8],
-    before: Opened,
-    after: Opened,
+    before: &OpenStudy,
+    after: &OpenStudy,
     printed: &mut [u8; PRINTED_BYTES],
 ) -> usize
-    ensures { Placed printed.old 0 (listing (held before) (held after) words.now) printed.new result }
+    ensures { Placed printed.old 0 (listing (held before.now) (held after.now) words.now) printed.new result }
 {
     let mut old = [0u32; CELLS];
     let mut new = [0u32; CELLS];
@@ -78,60 +55,81 @@ fn print_changes(
 // Changes an entry of the office's site in its block.
 fn amend_site(
     words: &[u8],
-    opened: Opened,
+    study: &OpenStudy,
     to: Change,
     printed: &mut [u8; PRINTED_BYTES],
     written: &mut [u8; OPEN_BYTES],
     said: &mut [u8; SAID_BYTES],
-) -> Lengths
-    ensures left { Left (amend_site words.now (held opened) to.entry to.value)
-        printed.old said.old printed.new said.new result }
-    ensures placed { Placed written.old 0 (amend_site words.now (held opened) to.entry to.value).writes
-        written.new result.writes }
+) -> Result<Lengths, usize>
+    ensures left { Left (amend_site words.now (held study.now) to.entry to.value)
+        printed.old said.old printed.new said.new (lengths_of result) }
+    ensures placed { Placed written.old 0 (amend_site words.now (held study.now) to.entry to.value).writes
+        written.new (lengths_of result).writes }
 {
-    let owners = opened.owners;
-    let mut blocks = opened.blocks;
+    let mut amended = *study;
     let office = program_open::office_in(words);
     let site = program_open::site_in(words);
-    let answer = open_study::amend(&owners, &mut blocks, office, site, to.entry, to.value);
+    let answer = open_study::amend(
+        &study.owners,
+        &mut amended.blocks,
+        office,
+        site,
+        to.entry,
+        to.value,
+    );
     let Answer::Accepted = answer else {
         let word = program_words::word(words, SITE);
-        return program_outcome::only_said(program_refusals::say_answer_of(word, answer, said));
+        return Err(program_refusals::say_answer_of(word, answer, said));
     };
-    let amended = Opened {
-        owners,
-        blocks,
-        says: 0,
-    };
-    let prints = print_changes(words, opened, amended, printed);
-    let writes = program_open::write_study(amended, written);
-    Lengths {
+    let prints = print_changes(words, study, &amended, printed);
+    let writes = program_open::write_study(&amended, written);
+    Ok(Lengths {
         prints,
         writes,
         says: 0,
-    }
+    })
 }
 
 // Makes the change that the words ask for, or says which of them is wrong.
 fn amend_words(
     words: &[u8],
-    opened: Opened,
+    study: &OpenStudy,
     printed: &mut [u8; PRINTED_BYTES],
     written: &mut [u8; OPEN_BYTES],
     said: &mut [u8; SAID_BYTES],
-) -> Lengths
-    ensures left { Left (amend_by (change_in words.now) words.now (held opened))
-        printed.old said.old printed.new said.new result }
-    ensures placed { Placed written.old 0 (amend_by (change_in words.now) words.now (held opened)).writes
-        written.new result.writes }
+) -> Result<Lengths, usize>
+    ensures left { Left (amend_by (change_in words.now) words.now (held study.now))
+        printed.old said.old printed.new said.new (lengths_of result) }
+    ensures placed { Placed written.old 0 (amend_by (change_in words.now) words.now (held study.now)).writes
+        written.new (lengths_of result).writes }
 {
-    match change_in(words) {
-        Asked::Change(entry, value) => {
-            let change = Change { entry, value };
-            amend_site(words, opened, change, printed, written, said)
-        }
-        Asked::Unclear(wrong) => program_outcome::only_said(say_wrong(wrong, words, said)),
+    let change = ChangeWords {
+        title: program_words::word(words, NAME),
+        kind: program_words::word(words, ENTRY),
+        value: program_words::word(words, VALUE),
+    };
+    match change.asked() {
+        Ok(to) => amend_site(words, study, to, printed, written, said),
+        Err(wrong) => Err(change.say_wrong(wrong, said)),
     }
+}
+
+// Amends the study, or stops where something is said.
+fn amend(
+    found: Found,
+    words: &[u8],
+    area: &[u8; AREA_BYTES],
+    printed: &mut [u8; PRINTED_BYTES],
+    written: &mut [u8; OPEN_BYTES],
+    said: &mut [u8; SAID_BYTES],
+) -> Result<Lengths, usize>
+    ensures left { Left (open_amend_run found words.now area.now)
+        printed.old said.old printed.new said.new (lengths_of result) }
+    ensures placed { Placed written.old 0 (open_amend_run found words.now area.now).writes
+        written.new (lengths_of result).writes }
+{
+    let study = program_open::study_in(found, words, area, said)?;
+    amend_words(words, &study, printed, written, said)
 }
 
 // What the call gives; its study was read into the area.
@@ -148,9 +146,5 @@ pub fn run(
     ensures placed { Placed written.old 0 (open_amend_run found words.now area.now).writes
         written.new result.writes }
 {
-    let opened = program_open::study_in(program_open::source_found(found), words, area, said);
-    if opened.says != 0 {
-        return program_outcome::only_said(opened.says);
-    }
-    amend_words(words, opened, printed, written, said)
+    Lengths::of(amend(found, words, area, printed, written, said))
 }

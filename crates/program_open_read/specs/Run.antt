@@ -5,8 +5,7 @@ use Rattle.layout.specs.Open.{place_count}
 use Rattle.layout.specs.declared.Worksheet.TheVariants.{Junction}
 use Rattle.open_rules.specs.Open.{Study, block_at, read_answer}
 use Rattle.program_words.specs.Words.{word_at}
-use Rattle.program_outcome.specs.declared.Input.{Input}
-use Rattle.program_outcome.specs.Outcome.{Outcome}
+use Rattle.program_outcome.specs.Outcome.{Input, Outcome}
 use Rattle.program_heading.specs.declared.Spot.{Spot}
 use Rattle.program_page.specs.Pages.{site_page}
 use Rattle.program_open.specs.Words.{study_word, site_word, office_in, site_in}

@@ -6,6 +6,7 @@ ghost use Rattle.layout.specs.Entries.{entry_count};
 ghost use Rattle.layout.specs.Open.{place_count};
 ghost use Rattle.layout.specs.declared.Worksheet.TheVariants.{Junction};
 ghost use Rattle.program_outcome.specs.Outcome.{Left};
+ghost use Rattle.program_outcome.specs.Working.{lengths_of};
 ghost use Rattle.program_page.specs.Pages.{site_page};
 ghost use Rattle.program_words.specs.Words.{word_at};
 ghost use Rattle.program_open.specs.Words.{study_word, site_in};
@@ -15,7 +16,7 @@ ghost use Rattle.program_open_read.specs.Run.{spot_of, read_site, open_read_run}
 use answers::Answer;
 use layout::{CELLS, ENTRIES, Worksheet};
 use program_heading::Spot;
-use program_open::{Opened, SITE, STUDY};
+use program_open::{OpenStudy, SITE, STUDY};
 use program_outcome::{AREA_BYTES, Input, Lengths, SAID_BYTES};
 
 // Room for what is printed.
@@ -61,20 +62,35 @@ fn print_sheet(
 // Prints the office's site.
 fn read_site(
     words: &[u8],
-    opened: Opened,
+    study: &OpenStudy,
     printed: &mut [u8; PRINTED_BYTES],
     said: &mut [u8; SAID_BYTES],
-) -> Lengths
-    ensures { Left (read_site words.now (held opened))
-        printed.old said.old printed.new said.new result }
+) -> Result<Lengths, usize>
+    ensures { Left (read_site words.now (held study.now))
+        printed.old said.old printed.new said.new (lengths_of result) }
 {
     let mut sheet = [0u32; CELLS];
-    let answer = program_open::read_site(words, opened, &mut sheet);
+    let answer = program_open::read_site(words, study, &mut sheet);
     let Answer::Accepted = answer else {
         let word = program_words::word(words, SITE);
-        return program_outcome::only_said(program_refusals::say_answer_of(word, answer, said));
+        return Err(program_refusals::say_answer_of(word, answer, said));
     };
-    print_sheet(words, &sheet, printed, said)
+    Ok(print_sheet(words, &sheet, printed, said))
+}
+
+// Prints the office's site of the study, or stops where something is said.
+fn read(
+    input: Input,
+    words: &[u8],
+    area: &[u8; AREA_BYTES],
+    printed: &mut [u8; PRINTED_BYTES],
+    said: &mut [u8; SAID_BYTES],
+) -> Result<Lengths, usize>
+    ensures { Left (open_read_run input words.now area.now)
+        printed.old said.old printed.new said.new (lengths_of result) }
+{
+    let study = program_open::study_in(program_open::source_read(input), words, area, said)?;
+    read_site(words, &study, printed, said)
 }
 
 // What the call gives; its study was read into the area.
@@ -88,9 +104,5 @@ pub fn run(
     ensures { Left (open_read_run input words.now area.now)
         printed.old said.old printed.new said.new result }
 {
-    let opened = program_open::study_in(program_open::source_read(input), words, area, said);
-    if opened.says != 0 {
-        return program_outcome::only_said(opened.says);
-    }
-    read_site(words, opened, printed, said)
+    Lengths::of(read(input, words, area, printed, said))
 }

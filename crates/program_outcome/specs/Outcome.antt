@@ -1,8 +1,6 @@
 -- What one run of a program gives: three texts, functions of the bytes of its arguments and of the files that it read.
-use Rattle.std.specs.Prelude.{ℕ, ◌≡◌, Bool, ◌||◌, List, [], ◌++◌, length, take, eqb}
+use Rattle.std.specs.Prelude.{ℕ, ◌≡◌, ◌<◌, Bool, ◌||◌, List, [], ◌++◌, length, take, eqb, Option, Some, None, Result, Ok, Err, IfOk, IfErr}
 use Rattle.text.specs.Text.{ascii, Placed}
-use Rattle.program_outcome.specs.declared.Input.{Input}
-use Rattle.program_outcome.specs.declared.Input.TheVariants.{Read, Failed}
 use Rattle.program_outcome.specs.declared.Remark.{Remark}
 use Rattle.program_outcome.specs.declared.Remark.TheVariants.{Unread, Unwritten, NoName, NoEntry, IsStudy, WantsText}
 use Rattle.program_outcome.specs.declared.Remark.TheVariants.{InTheWay, Stays, IsLink, NoInput, NoOutput}
@@ -55,13 +53,28 @@ remark_text NoOutput = ascii "standard output cannot be written\n"
 abbrev pub remarked : List ℕ → Remark → List ℕ
 remarked word remark = named word (remark_text remark)
 
+-- how many bytes of a file were read into an area; none, where it could not be read
+abbrev pub Input : Type 0
+Input = Option ℕ
+
 -- what is done with the bytes of the file that an argument names, if it could be read into an area
 abbrev pub with_file : Input → List ℕ → List ℕ → (List ℕ → Outcome) → Outcome
-with_file (Read size) name area run = run (take size area)
-with_file Failed name area run = saying (remarked name Unread)
+with_file (Some size) name area run = run (take size area)
+with_file None name area run = saying (remarked name Unread)
 
 -- what is printed and what is said, at the front of two areas whose other bytes stay, and how long each of the three texts is
 pub record Left (run : Outcome) (printed said printed' said' : List ℕ) (lengths : Lengths) : Type 0 where
   pub prints : Placed printed 0 run.prints printed' lengths.prints
   pub writes : lengths.writes ≡ length run.writes
   pub says : Placed said 0 run.says said' lengths.says
+
+-- how many bytes a step says, whose error that is
+abbrev pub bytes_said : {T : Type 0} → Result T ℕ → ℕ
+bytes_said (Ok value) = 0
+bytes_said (Err size) = size
+
+-- a step stops where a text is said, and its error is how many bytes that has; where there is nothing to say, what it gives is good
+pub record Tells {T : Type 0} (text said said' : List ℕ) (Good : T → Type 0) (result : Result T ℕ) : Type 0 where
+  pub says : Placed said 0 text said' (bytes_said result)
+  pub some : IfErr result (λ size. 0 < size)
+  pub good : IfOk result Good

@@ -4,16 +4,12 @@
 ghost use Rattle.std.specs.Prelude.{◌≡◌, ◌+◌, ◌≤◌, length, take};
 ghost use Rattle.text.specs.Text.{Placed};
 ghost use Rattle.program_outcome.specs.Outcome.{is_either, opening, named, remark_text, remarked};
-ghost use Rattle.program_outcome.specs.Working.{only_said, only_printed, opening_most, remark_most};
+ghost use Rattle.program_outcome.specs.Working.{only_said, only_printed, only_written, lengths_of, opening_most, remark_most};
 
 use layout::Worksheet;
 
-// What reading a file into an area came to: how many bytes were read.
-#[derive(Clone, Copy)]
-pub enum Input {
-    Read(usize),
-    Failed,
-}
+// How many bytes of a file were read into an area; none, where it could not be read.
+pub type Input = Option<usize>;
 
 // What is said of an argument, or of the program itself.
 #[derive(Clone, Copy)]
@@ -41,12 +37,15 @@ pub struct Call {
 }
 
 // How many bytes are to be printed, to be written to a file, and to be said on standard error.
-#[derive(Clone, Copy)]
+#[derive(Clone, Copy, Default)]
 pub struct Lengths {
     pub prints: usize,
     pub writes: usize,
     pub says: usize,
 }
+
+// Nothing that a program's calls are made of allocates (a rule of the project: no heap). So what is read, printed, written and said
+// stands in arrays of these sizes, each with how many of its bytes are used; `front` gives those as a slice.
 
 // The most bytes of an argument.
 pub const WORD_BYTES: usize = 4_096;
@@ -67,25 +66,42 @@ pub fn front(bytes: &[u8], size: usize) -> &[u8]
     bytes
 }
 
-// The lengths where something is said and nothing else is given.
-pub fn only_said(says: usize) -> Lengths
-    ensures { result ≡ only_said says }
-{
-    Lengths {
-        prints: 0,
-        writes: 0,
-        says,
+impl Lengths {
+    // Where something is said, and nothing else given.
+    pub fn said(says: usize) -> Lengths
+        ensures { result ≡ only_said says }
+    {
+        Lengths {
+            says,
+            ..Lengths::default()
+        }
     }
-}
 
-// The same where something is printed.
-pub fn only_printed(prints: usize) -> Lengths
-    ensures { result ≡ only_printed prints }
-{
-    Lengths {
-        prints,
-        writes: 0,
-        says: 0,
+    // Where something is printed.
+    pub fn printed(prints: usize) -> Lengths
+        ensures { result ≡ only_printed prints }
+    {
+        Lengths {
+            prints,
+            ..Lengths::default()
+        }
+    }
+
+    // Where something is written.
+    pub fn written(writes: usize) -> Lengths
+        ensures { result ≡ only_written writes }
+    {
+        Lengths {
+            writes,
+            ..Lengths::default()
+        }
+    }
+
+    // What a run gives that stops where something is said: an error is how many bytes that is.
+    pub fn of(run: Result<Lengths, usize>) -> Lengths
+        ensures { result ≡ lengths_of run }
+    {
+        run.unwrap_or_else(Lengths::said)
     }
 }
 
@@ -93,10 +109,7 @@ pub fn only_printed(prints: usize) -> Lengths
 pub fn is_either(number: usize, one: usize, other: usize) -> bool
     ensures { result ≡ is_either number one other }
 {
-    if number == one {
-        return true;
-    }
-    number == other
+    number == one || number == other
 }
 
 // Puts an argument and a colon, before what is said of it.

@@ -1,6 +1,6 @@
 -- The record that the arguments of `icudiamond` make: the texts of a diamond's junctions, west and east, then its own numbers, a word
 -- each; and what is said where they make none, the first that applies.
-use Rattle.std.specs.Prelude.{ℕ, zero, suc, ◌+◌, Bool, true, false, cond, List, [], ◌∷◌, ◌++◌, take, ltb}
+use Rattle.std.specs.Prelude.{ℕ, zero, suc, ◌+◌, Bool, true, false, cond, List, [], ◌∷◌, ◌++◌, take, ltb, Some, None, Ok, Err}
 use Rattle.lists.specs.Lists.{table}
 use Rattle.answers.specs.declared.Answer.{Answer}
 use Rattle.answers.specs.declared.Answer.TheVariants.{Accepted, Refused as No}
@@ -13,16 +13,12 @@ use Rattle.text_values.specs.declared.Value.{Value}
 use Rattle.text_values.specs.declared.Value.TheVariants.{Is, Not}
 use Rattle.text_values.specs.Values.{value_of}
 use Rattle.text_scan.specs.Scanning.{parsed}
-use Rattle.text_reader.specs.Reader.{reading}
-use Rattle.text_reader.specs.declared.Reading.{Reading}
-use Rattle.text_reader.specs.declared.Reading.TheVariants.{Read, Misread, Refused}
+use Rattle.text_reader.specs.Reader.{Reading, reading}
 use Rattle.text_refusals.specs.Refusals.{reading_text}
 use Rattle.text_troubles.specs.Troubles.{trouble_text}
 use Rattle.program_words.specs.Words.{word_at}
-use Rattle.program_outcome.specs.declared.Input.{Input}
-use Rattle.program_outcome.specs.declared.Input.TheVariants.{Read as Got, Failed}
 use Rattle.program_outcome.specs.declared.Remark.TheVariants.{Unread, WantsText}
-use Rattle.program_outcome.specs.Outcome.{named, remarked}
+use Rattle.program_outcome.specs.Outcome.{Input, named, remarked}
 use Rattle.program_record.specs.declared.Files.{Files}
 
 -- what is said, or else the next
@@ -39,8 +35,8 @@ is_nothing (byte ∷ bytes) = false
 
 -- its bytes, where it could be read into an area
 abbrev pub bytes_of : Input → List ℕ → List ℕ
-bytes_of (Got size) area = take size area
-bytes_of Failed area = []
+bytes_of (Some size) area = take size area
+bytes_of None area = []
 
 -- the entries that its text writes
 abbrev pub entries_of : Input → List ℕ → List ℕ
@@ -48,9 +44,8 @@ entries_of input area = (parsed (bytes_of input area)).entries
 
 -- what is said of a text; nothing, if it is well
 abbrev pub text_says : Reading → List ℕ → List ℕ → List ℕ
-text_says Read name text = []
-text_says (Misread why place) name text = named name (reading_text text (Misread why place))
-text_says (Refused why at place) name text = named name (reading_text text (Refused why at place))
+text_says (Ok done) name text = []
+text_says (Err why) name text = named name (reading_text text (Err why))
 
 -- bytes that are a study are no text
 abbrev pub bytes_say : Answer → List ℕ → List ℕ → List ℕ
@@ -58,8 +53,8 @@ bytes_say Accepted name text = remarked name WantsText
 bytes_say (No why place) name text = text_says (reading Junction text) name text
 
 unfoldable pub file_says : Input → List ℕ → List ℕ → List ℕ
-file_says (Got size) name area = bytes_say (judgement (take size area)) name (take size area)
-file_says Failed name area = remarked name Unread
+file_says (Some size) name area = bytes_say (judgement (take size area)) name (take size area)
+file_says None name area = remarked name Unread
 
 -- the words -------------------------------------------------------------------------------------------------------------
 

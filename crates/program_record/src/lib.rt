@@ -1,7 +1,7 @@
 // The record that the arguments of `icudiamond` make, or what is said where they make none.
 #![tactic(auto)]
 
-ghost use Rattle.std.specs.Prelude.{◌≡◌, ◌+◌, ◌≤◌, ◌<◌, set, length};
+ghost use Rattle.std.specs.Prelude.{◌≡◌, ◌+◌, ◌≤◌, ◌<◌, OnOk, set, length};
 ghost use Rattle.lists.specs.Lists.{over};
 ghost use Rattle.layout.specs.declared.Worksheet.TheVariants.{Junction};
 ghost use Rattle.layout.specs.Entries.{entry_count};
@@ -19,7 +19,6 @@ use answers::Answer;
 use kinds::Kind;
 use layout::{ENTRIES, RECORD, STORAGES, Worksheet};
 use program_outcome::{AREA_BYTES, Input, Remark, SAID_BYTES};
-use text_reader::Reading;
 use text_values::Value;
 
 // What reading the texts of both junctions came to.
@@ -46,10 +45,7 @@ pub const WORDS: usize = OWN_FROM + OWN_NUMBERS;
 pub fn bytes_of(input: Input, area: &[u8; AREA_BYTES]) -> &[u8]
     ensures { result.now ≡ bytes_of input area.now }
 {
-    match input {
-        Input::Read(size) => program_outcome::front(area, size),
-        Input::Failed => program_outcome::front(area, 0),
-    }
+    program_outcome::front(area, input.unwrap_or(0))
 }
 
 // Reads a text, or says what is wrong with it.
@@ -58,15 +54,14 @@ fn take_text(
     text: &[u8],
     entries: &mut [u32; ENTRIES],
     said: &mut [u8; SAID_BYTES],
-) -> usize
+) -> Result<(), usize>
     ensures { Made (text_says (reading Junction text.now) name.now text.now) said.old said.new
         (parsed text.now).entries entries.new result }
 {
     let reading = text_reader::read(Worksheet::Junction, text, entries);
     match reading {
-        Reading::Read => 0,
-        Reading::Misread(_, _) => program_refusals::say_reading(name, text, reading, said),
-        Reading::Refused(_, _, _) => program_refusals::say_reading(name, text, reading, said),
+        Ok(()) => Ok(()),
+        Err(_) => Err(program_refusals::say_reading(name, text, reading, said)),
     }
 }
 
@@ -76,13 +71,13 @@ fn take_bytes(
     bytes: &[u8],
     entries: &mut [u32; ENTRIES],
     said: &mut [u8; SAID_BYTES],
-) -> usize
+) -> Result<(), usize>
     ensures { Made (bytes_say (judgement bytes.now) name.now bytes.now) said.old said.new
         (parsed bytes.now).entries entries.new result }
 {
     let answer = study::check(bytes);
     if let Answer::Accepted = answer {
-        return program_outcome::say(name, Remark::WantsText, said);
+        return Err(program_outcome::say(name, Remark::WantsText, said));
     }
     take_text(name, bytes, entries, said)
 }
@@ -94,12 +89,12 @@ pub fn take_file(
     area: &[u8; AREA_BYTES],
     entries: &mut [u32; ENTRIES],
     said: &mut [u8; SAID_BYTES],
-) -> usize
+) -> Result<(), usize>
     ensures { Made (file_says input name.now area.now) said.old said.new
         (entries_of input area.now) entries.new result }
 {
-    let Input::Read(size) = input else {
-        return program_outcome::say(name, Remark::Unread, said);
+    let Some(size) = input else {
+        return Err(program_outcome::say(name, Remark::Unread, said));
     };
     take_bytes(name, program_outcome::front(area, size), entries, said)
 }
@@ -120,16 +115,16 @@ fn take_junction(
     at: usize,
     numbers: &mut [u32],
     said: &mut [u8; SAID_BYTES],
-) -> usize
+) -> Result<(), usize>
     requires { at + entry_count ≤ length numbers.old }
     ensures made { Made (file_says input name.now area.now) said.old said.new
         (over numbers.old at (entries_of input area.now)) numbers.new result }
-    ensures area_len { result ≡ 0 → length (entries_of input area.now) ≡ entry_count }
+    ensures area_len { OnOk result (length (entries_of input area.now) ≡ entry_count) }
 {
     let mut entries = [0u32; ENTRIES];
-    let says = take_file(name, input, area, &mut entries, said);
+    take_file(name, input, area, &mut entries, said)?;
     put_junction(numbers, at, &entries);
-    says
+    Ok(())
 }
 
 fn own_kind(k: u32) -> Kind
@@ -149,7 +144,12 @@ pub fn own_word(words: &[u8], k: u32) -> &[u8]
 }
 
 // Puts own number k into the record, or says why its word is none.
-fn take_word(words: &[u8], k: u32, numbers: &mut [u32], said: &mut [u8; SAID_BYTES]) -> usize
+fn take_word(
+    words: &[u8],
+    k: u32,
+    numbers: &mut [u32],
+    said: &mut [u8; SAID_BYTES],
+) -> Result<(), usize>
     requires { storages_from + k < length numbers.old }
     ensures { Made (value_says (own_value words.now k) (own_word words.now k)) said.old said.new
         (set numbers.old (storages_from + k) (number_by (own_value words.now k))) numbers.new result }
@@ -159,66 +159,22 @@ fn take_word(words: &[u8], k: u32, numbers: &mut [u32], said: &mut [u8; SAID_BYT
     match value {
         Value::Is(number) => {
             numbers[layout::STORAGES_FROM + k as usize] = number;
-            0
+            Ok(())
         }
-        Value::Not(why) => program_refusals::say_trouble(word, why, said),
+        Value::Not(why) => Err(program_refusals::say_trouble(word, why, said)),
     }
 }
 
 // Puts all of them into the record, or says of the first word that is none.
-fn take_words(words: &[u8], numbers: &mut [u32], said: &mut [u8; SAID_BYTES]) -> usize
+fn take_words(words: &[u8], numbers: &mut [u32], said: &mut [u8; SAID_BYTES]) -> Result<(), usize>
     requires { length numbers.old ≡ record_count }
     ensures { Made (words_say words.now 0 own_count) said.old said.new
         (over numbers.old storages_from (own_numbers words.now)) numbers.new result }
 {
-    let mut k: u32 = 0;
-    while k < OWN_NUMBERS as u32 {
-        let says = take_word(words, k, numbers, said);
-        if says != 0 {
-            return says;
-        }
-        k += 1;
+    for k in 0..OWN_NUMBERS as u32 {
+        take_word(words, k, numbers, said)?;
     }
-    0
-}
-
-fn take_all(
-    files: Files,
-    words: &[u8],
-    west: &[u8; AREA_BYTES],
-    east: &[u8; AREA_BYTES],
-    numbers: &mut [u32],
-    said: &mut [u8; SAID_BYTES],
-) -> usize
-    requires { length numbers.old ≡ record_count }
-    ensures { Made (arguments_say files words.now west.now east.now) said.old said.new
-        (record_of files words.now west.now east.now) numbers.new result }
-{
-    let file = files.west;
-    let says = take_junction(
-        program_words::word(words, WEST),
-        file,
-        west,
-        0,
-        numbers,
-        said,
-    );
-    if says != 0 {
-        return says;
-    }
-    let file = files.east;
-    let says = take_junction(
-        program_words::word(words, EAST),
-        file,
-        east,
-        layout::EAST_FROM,
-        numbers,
-        said,
-    );
-    if says != 0 {
-        return says;
-    }
-    take_words(words, numbers, said)
+    Ok(())
 }
 
 // Makes the record of two texts, which were read into the areas west and east, and of the words past their names; or says why not.
@@ -229,9 +185,25 @@ pub fn gather(
     east: &[u8; AREA_BYTES],
     numbers: &mut [u32; RECORD],
     said: &mut [u8; SAID_BYTES],
-) -> usize
+) -> Result<(), usize>
     ensures { Made (arguments_say files words.now west.now east.now) said.old said.new
         (record_of files words.now west.now east.now) numbers.new result }
 {
-    take_all(files, words, west, east, numbers, said)
+    take_junction(
+        program_words::word(words, WEST),
+        files.west,
+        west,
+        0,
+        numbers,
+        said,
+    )?;
+    take_junction(
+        program_words::word(words, EAST),
+        files.east,
+        east,
+        layout::EAST_FROM,
+        numbers,
+        said,
+    )?;
+    take_words(words, numbers, said)
 }

@@ -9,7 +9,7 @@ ghost use Rattle.program_outcome.specs.Outcome.{named};
 
 use answers::Answer;
 use program_outcome::SAID_BYTES;
-use text_reader::Reading;
+use text_reader::Misreading;
 use text_refusals::SAYING_BYTES;
 use text_values::Trouble;
 
@@ -49,7 +49,12 @@ pub fn say_answer_of(name: &[u8], answer: Answer, said: &mut [u8; SAID_BYTES]) -
 }
 
 // Says what is wrong with the text of the file of that name.
-pub fn say_reading(name: &[u8], text: &[u8], reading: Reading, said: &mut [u8; SAID_BYTES]) -> usize
+pub fn say_reading(
+    name: &[u8],
+    text: &[u8],
+    reading: Result<(), Misreading>,
+    said: &mut [u8; SAID_BYTES],
+) -> usize
     ensures { Placed said.old 0 (named name.now (reading_text text.now reading)) said.new result }
 {
     let mut saying = [0u8; SAYING_BYTES];

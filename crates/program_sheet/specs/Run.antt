@@ -1,33 +1,28 @@
 -- What `icusheet` gives: the worksheet of a text or of a site of a study, of kind k, or what is said.
-use Rattle.std.specs.Prelude.{ℕ, Bool, false, cond, not, List, ◌++◌, take, eqb, leb}
+use Rattle.std.specs.Prelude.{ℕ, Bool, false, cond, not, List, ◌++◌, take, eqb, leb, Some, None, Ok, Err}
 use Rattle.answers.specs.declared.Answer.{Answer}
 use Rattle.answers.specs.declared.Answer.TheVariants.{Accepted, Refused as No}
 use Rattle.layout.specs.declared.Worksheet.{Worksheet}
 use Rattle.study.specs.Study.{judgement, count_of, site_entries}
 use Rattle.text.specs.Text.{ascii}
 use Rattle.text_scan.specs.Scanning.{parsed}
-use Rattle.text_reader.specs.Reader.{reading}
-use Rattle.text_reader.specs.declared.Reading.{Reading}
-use Rattle.text_reader.specs.declared.Reading.TheVariants.{Read, Misread, Refused}
+use Rattle.text_reader.specs.Reader.{Reading, reading}
 use Rattle.text_refusals.specs.Refusals.{reading_text}
 use Rattle.program_words.specs.Words.{word_at}
 use Rattle.program_wish.specs.Wish.{same, wish_of, version_text}
 use Rattle.program_wish.specs.declared.Wish.{Wish}
 use Rattle.program_wish.specs.declared.Wish.TheVariants.{Help, Version, Work}
 use Rattle.program_outcome.specs.declared.Call.{Call}
-use Rattle.program_outcome.specs.declared.Input.{Input}
-use Rattle.program_outcome.specs.declared.Input.TheVariants.{Read as Got, Failed}
 use Rattle.program_outcome.specs.declared.Remark.TheVariants.{IsStudy}
-use Rattle.program_outcome.specs.Outcome.{Outcome, is_either, printing, saying, named, remarked, with_file}
+use Rattle.program_outcome.specs.Outcome.{Input, Outcome, is_either, printing, saying, named, remarked, with_file}
 use Rattle.program_site.specs.Site.{sought, with_site}
 use Rattle.program_heading.specs.declared.Spot.{Spot}
 use Rattle.program_page.specs.Pages.{nothing, text_page, site_page, site_alone}
 
 -- of the entries of a text, or what is wrong with it
 abbrev pub read_as : Reading → Worksheet → List ℕ → List ℕ → Outcome
-read_as Read k name text = text_page k name text (parsed text).entries
-read_as (Misread why place) k name text = saying (named name (reading_text text (Misread why place)))
-read_as (Refused why at place) k name text = saying (named name (reading_text text (Refused why at place)))
+read_as (Ok done) k name text = text_page k name text (parsed text).entries
+read_as (Err why) k name text = saying (named name (reading_text text (Err why)))
 
 -- bytes that are a study are no text: a site is to be named
 abbrev pub text_by : Answer → Worksheet → List ℕ → List ℕ → Outcome
@@ -86,8 +81,8 @@ sheet_run call words area = run_by (wish_of call.arguments (word_at words 0)) ca
 
 -- how many pages follow what a run gives: one for each site, where all are asked for
 abbrev pub pages_in : Input → List ℕ → List ℕ → ℕ
-pages_in (Got size) words area = cond (asks_all (word_at words 1)) (count_of (take size area)) 0
-pages_in Failed words area = 0
+pages_in (Some size) words area = cond (asks_all (word_at words 1)) (count_of (take size area)) 0
+pages_in None words area = 0
 
 unfoldable pub pages_of : Call → List ℕ → List ℕ → ℕ
 pages_of call words area = cond (eqb call.arguments 3) (pages_in call.input words area) 0
@@ -98,8 +93,8 @@ page_in k name file site =
     cond (leb (count_of file) site) nothing (site_page k name (spot_in file site (not (eqb site 0))) (site_entries file site))
 
 abbrev pub page_by : Input → Worksheet → List ℕ → List ℕ → ℕ → Outcome
-page_by (Got size) k words area site = page_in k (word_at words 0) (take size area) site
-page_by Failed k words area site = nothing
+page_by (Some size) k words area site = page_in k (word_at words 0) (take size area) site
+page_by None k words area site = nothing
 
 unfoldable pub page_at : Call → List ℕ → List ℕ → ℕ → Outcome
 page_at call words area site = page_by call.input call.worksheet words area site

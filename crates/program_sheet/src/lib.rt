@@ -12,12 +12,10 @@ ghost use Rattle.program_sheet.specs.Working.{use_most};
 use answers::Answer;
 use layout::{ENTRIES, Worksheet};
 use program_heading::Spot;
-use program_outcome::{AREA_BYTES, Call, Input, Lengths, Remark, SAID_BYTES};
-use program_site::Sought;
+use program_outcome::{AREA_BYTES, Call, Lengths, Remark, SAID_BYTES};
 use program_wish::Wish;
-use text_reader::Reading;
 
-// Room for what is printed: a heading and a page.
+// Room for what is printed, a heading and a page; how much of it is used stands beside it, since there is no heap.
 pub const PRINTED_BYTES: usize = program_page::PRINTED_BYTES;
 
 // The number of arguments, with a text; with a study and a site.
@@ -43,13 +41,8 @@ fn read_text(
     let mut entries = [0u32; ENTRIES];
     let reading = text_reader::read(kind, text, &mut entries);
     match reading {
-        Reading::Read => program_page::print_text(kind, name, text, &entries, printed, said),
-        Reading::Misread(_, _) => {
-            program_outcome::only_said(program_refusals::say_reading(name, text, reading, said))
-        }
-        Reading::Refused(_, _, _) => {
-            program_outcome::only_said(program_refusals::say_reading(name, text, reading, said))
-        }
+        Ok(()) => program_page::print_text(kind, name, text, &entries, printed, said),
+        Err(_) => Lengths::said(program_refusals::say_reading(name, text, reading, said)),
     }
 }
 
@@ -65,7 +58,7 @@ fn sheet_of_text(
 {
     let answer = study::check(text);
     if let Answer::Accepted = answer {
-        return program_outcome::only_said(program_outcome::say(name, Remark::IsStudy, said));
+        return Lengths::said(program_outcome::say(name, Remark::IsStudy, said));
     }
     read_text(kind, name, text, printed, said)
 }
@@ -83,24 +76,15 @@ fn sheet_of_site(
 {
     let mut entries = [0u32; ENTRIES];
     let sought = program_site::read_site(file, word, &mut entries);
-    let sites = study::count(file);
-    match sought {
-        Sought::Site(site) => {
-            let follows = false;
-            let spot = Spot {
-                site,
-                sites,
-                follows,
-            };
-            program_page::print_alone(kind, name, spot, &entries, printed, said)
-        }
-        Sought::Missing(_) => {
-            program_outcome::only_said(program_site::say_site(sought, name, word, said))
-        }
-        Sought::Bad(_, _) => {
-            program_outcome::only_said(program_site::say_site(sought, name, word, said))
-        }
-    }
+    let Ok(site) = sought else {
+        return Lengths::said(program_site::say_site(sought, name, word, said));
+    };
+    let spot = Spot {
+        site,
+        sites: study::count(file),
+        follows: false,
+    };
+    program_page::print_alone(kind, name, spot, &entries, printed, said)
 }
 
 // What is said before the pages of all sites.
@@ -116,7 +100,7 @@ fn before_all(
 {
     let mut entries = [0u32; ENTRIES];
     let sought = program_site::read_site(file, b"1", &mut entries);
-    program_outcome::only_said(program_site::say_site(sought, name, word, said))
+    Lengths::said(program_site::say_site(sought, name, word, said))
 }
 
 // Whether so many arguments are right: then the first names a file to be read.
@@ -126,6 +110,7 @@ pub fn takes(count: usize) -> bool
     program_outcome::is_either(count, OF_TEXT, OF_STUDY)
 }
 
+#[tactic(auto, unfolding(crate::specs::Run::sheet_use, text::specs::Text::ascii))]
 fn put_use(out: &mut [u8]) -> usize
     requires { use_most ≤ length out.old }
     ensures { Placed out.old 0 sheet_use out.new result }
@@ -142,6 +127,7 @@ fn put_use(out: &mut [u8]) -> usize
 }
 
 // By the number of arguments, the file is a text or a study.
+#[tactic(auto, unfolding(text::specs::Text::ascii))]
 fn sheet_of_file(
     call: Call,
     words: &[u8],
@@ -175,12 +161,11 @@ fn work(
         printed.old said.old printed.new said.new result }
 {
     if !takes(call.arguments) {
-        return program_outcome::only_said(put_use(said));
+        return Lengths::said(put_use(said));
     }
-    let input = call.input;
-    let Input::Read(size) = input else {
+    let Some(size) = call.input else {
         let name = program_words::word(words, NAME);
-        return program_outcome::only_said(program_outcome::say(name, Remark::Unread, said));
+        return Lengths::said(program_outcome::say(name, Remark::Unread, said));
     };
     let file = program_outcome::front(area, size);
     sheet_of_file(call, words, file, printed, said)
@@ -198,21 +183,21 @@ pub fn run(
         printed.old said.old printed.new said.new result }
 {
     match program_wish::wish_of(call.arguments, program_words::word(words, NAME)) {
-        Wish::Help => program_outcome::only_printed(put_use(printed)),
-        Wish::Version => program_outcome::only_printed(program_wish::put_version(printed)),
+        Wish::Help => Lengths::printed(put_use(printed)),
+        Wish::Version => Lengths::printed(program_wish::put_version(printed)),
         Wish::Work => work(call, words, area, printed, said),
     }
 }
 
 // How many pages follow: one for each site, where all are asked for.
+#[tactic(auto, unfolding(crate::specs::Run::pages_of, text::specs::Text::ascii))]
 pub fn pages(call: Call, words: &[u8], area: &[u8; AREA_BYTES]) -> u32
     ensures { result ≡ pages_of call words.now area.now }
 {
     if call.arguments != OF_STUDY {
         return 0;
     }
-    let input = call.input;
-    let Input::Read(size) = input else {
+    let Some(size) = call.input else {
         return 0;
     };
     if program_wish::is_same(program_words::word(words, SITE), b"all") {
@@ -234,7 +219,7 @@ fn page_in(
 {
     let sites = study::count(file);
     if sites <= site {
-        return program_outcome::only_printed(0);
+        return Lengths::printed(0);
     }
     let mut entries = [0u32; ENTRIES];
     study::site_entries(file, site, &mut entries);
@@ -259,9 +244,8 @@ pub fn page(
     ensures { Left (page_at call words.now area.now site)
         printed.old said.old printed.new said.new result }
 {
-    let input = call.input;
-    let Input::Read(size) = input else {
-        return program_outcome::only_printed(0);
+    let Some(size) = call.input else {
+        return Lengths::printed(0);
     };
     let kind = call.worksheet;
     let name = program_words::word(words, NAME);

@@ -1,6 +1,6 @@
--- Laws of what is sought in a file, a law for each way that it can come out, and of what is left where it is not there.
+-- Laws of what is sought in a file, a law for each way that it can come out.
 use Prim.Native.Nat.{ℕ, ◌≤◌, ◌<◌}
-use mathlib.Core.Path.{◌≡◌, refl, ap}
+use mathlib.Core.Path.{◌≡◌, refl}
 use mathlib.Core.Bool.{Bool, true, false}
 use mathlib.Core.List.{List, []}
 use lib.Dec.{leb}
@@ -13,16 +13,12 @@ use Rattle.answers.specs.declared.Answer.TheVariants.{Accepted, Refused as No}
 use Rattle.layout.specs.Entries.{entry_count}
 use Rattle.study.specs.Study.{judgement, sites_of, count_of, site_entries_answer}
 use Rattle.study.proofs.Laws.{entries_given}
-use Rattle.text.specs.Text.{Placed}
-use Rattle.program_outcome.specs.Outcome.{Outcome, Left}
-use Rattle.program_outcome.specs.Working.{only_said}
-use Rattle.program_outcome.proofs.Laws.{left_saying}
-use Rattle.program_site.specs.Site.{site_named, sought_by, sought, sought_text, with_site}
-use Rattle.program_site.specs.declared.Sought.{Sought}
-use Rattle.program_site.specs.declared.Sought.TheVariants.{Site, Missing, Bad}
+use Rattle.std.specs.Prelude.{Ok, Err}
+use Rattle.program_site.specs.Site.{site_named, sought_by, sought}
+use Rattle.program_site.specs.declared.NoSite.TheVariants.{Missing, Bad}
 
 module _ (file word : List ℕ) where
-  pub bad_file : {why : Refusal} {place : ℕ} → judgement file ≡ No why place → sought file word ≡ Bad why place
+  pub bad_file : {why : Refusal} {place : ℕ} → judgement file ≡ No why place → sought file word ≡ Err (Bad why place)
   unfolding sought
   bad_file bad = rw bad
 
@@ -30,11 +26,11 @@ module _ (file word : List ℕ) where
   pub counted : judgement file ≡ Accepted → count_of file ≡ sites_of file
   counted good = rw good
 
-  pub missing : judgement file ≡ Accepted → count_of file ≤ site_named word → sought file word ≡ Missing (sites_of file)
+  pub missing : judgement file ≡ Accepted → count_of file ≤ site_named word → sought file word ≡ Err (Missing (sites_of file))
   unfolding sought
   missing good past = rw (good, le-leb (sites_of file) (site_named word) (rw (counted good) at past))
 
-  pub there : judgement file ≡ Accepted → site_named word < count_of file → sought file word ≡ Site (site_named word)
+  pub there : judgement file ≡ Accepted → site_named word < count_of file → sought file word ≡ Ok (site_named word)
   unfolding sought
   there good within = rw (good, lt-leb (sites_of file) (site_named word) (rw (counted good) at within))
 
@@ -52,34 +48,17 @@ module _ (file : List ℕ) (site : ℕ) (within : site < count_of file) where
       let here = rw (counted file [] good_file) at within in
       entries_given file site room new old (simp (good_file, lt-leb (sites_of file) site here)) sized
 
--- where there is no such site, that is said and nothing else is given
-abbrev pub is_there : Sought → Bool
-is_there (Site site) = true
-is_there (Missing sites) = false
-is_there (Bad why place) = false
-
-abbrev site_in : Sought → ℕ
-site_in (Site site) = site
-site_in (Missing sites) = 0
-site_in (Bad why place) = 0
-
 -- a site that is there is one of those that the file has
-pub site_counted : (file word : List ℕ) (site : ℕ) → sought file word ≡ Site site → site < count_of file
+pub site_counted : (file word : List ℕ) (site : ℕ) → sought file word ≡ Ok site → site < count_of file
 unfolding sought
 site_counted file word site = by (judgement file) refl (leb (sites_of file) (site_named word)) refl
   where
     by : (a : Answer) → judgement file ≡ a → (b : Bool) → leb (sites_of file) (site_named word) ≡ b
-        → sought_by (judgement file) (sites_of file) (site_named word) ≡ Site site
+        → sought_by (judgement file) (sites_of file) (site_named word) ≡ Ok site
         → site < count_of file
-    by Accepted good true e is = absurd (let z = ap is_there (rw (good, e) at is) in let y : ◌≡◌ {A = ℕ} 0 1 = cc in omega arith)
+    by Accepted good true e is = absurd (let z = rw (good, e) at is in cc)
     by Accepted good false e is =
-        let same = ap site_in (rw (good, e) at is) in
+        let found = rw (good, e) at is in
+        let same : site_named word ≡ site = cc in
         omega (arith, same, leb-false (sites_of file) (site_named word) e, counted file word good)
-    by (No why place) bad b e is = absurd (let z = ap is_there (rw bad at is) in let y : ◌≡◌ {A = ℕ} 0 1 = cc in omega arith)
-
-pub left_unsought : (this : Sought) (name word : List ℕ) (run : ℕ → Outcome) {printed said said' : List ℕ} {n : ℕ} → is_there this ≡ false
-    → Placed said 0 (sought_text this name word) said' n
-    → Left (with_site this name word run) printed said printed said' (only_said n)
-left_unsought (Site site) name word run gone p = absurd (let y : ◌≡◌ {A = ℕ} 0 1 = cc in omega arith)
-left_unsought (Missing sites) name word run gone p = left_saying p
-left_unsought (Bad why place) name word run gone p = left_saying p
+    by (No why place) bad b e is = absurd (let z = rw bad at is in cc)

@@ -4,7 +4,8 @@
 ghost use Rattle.std.specs.Prelude.{◌≡◌, ◌+◌, ◌≤◌, length};
 ghost use Rattle.text.specs.Text.{Placed};
 ghost use Rattle.program_outcome.specs.Outcome.{named};
-ghost use Rattle.program_site.specs.Site.{site_of, sought, sites_text, sought_text};
+ghost use Rattle.program_site.specs.Site.{site_of, sought, sites_text, no_site_text};
+ghost use Rattle.program_site.specs.Working.{sought_text};
 ghost use Rattle.program_site.specs.Working.{entries_sought, sites_most};
 
 use answers::{Answer, Refusal};
@@ -13,9 +14,9 @@ use program_outcome::SAID_BYTES;
 // Past any site of a study: the largest number of 32 bits.
 const NO_SITE: u32 = (text_numbers::TOO_LARGE - 1) as u32;
 
+// Why there is no site that a word names.
 #[derive(Clone, Copy)]
-pub enum Sought {
-    Site(u32),
+pub enum NoSite {
     // The file has no such site: how many it has.
     Missing(u32),
     // The file is badly laid out: the refusal, and its place.
@@ -23,6 +24,7 @@ pub enum Sought {
 }
 
 // A site's number from 1, as a study counts it, from 0; past any site, if there can be none.
+#[tactic(auto, unfolding(crate::specs::Site::site_of))]
 pub fn site_of(number: u64) -> u32
     ensures { result ≡ site_of number }
 {
@@ -36,22 +38,26 @@ pub fn site_of(number: u64) -> u32
 }
 
 // Reads the entries of the site that a word names.
-pub fn read_site(file: &[u8], word: &[u8], entries: &mut [u32; layout::ENTRIES]) -> Sought
+pub fn read_site(
+    file: &[u8],
+    word: &[u8],
+    entries: &mut [u32; layout::ENTRIES],
+) -> Result<u32, NoSite>
     ensures value { result ≡ sought file.now word.now }
     ensures entries_after { entries.new
         ≡ entries_sought (sought file.now word.now) file.now entries.old }
 {
     let answer = study::check(file);
     if let Answer::Refused(why, place) = answer {
-        return Sought::Bad(why, place);
+        return Err(NoSite::Bad(why, place));
     }
     let site = site_of(text_numbers::number_of(word));
     let sites = study::count(file);
     if sites <= site {
-        return Sought::Missing(sites);
+        return Err(NoSite::Missing(sites));
     }
     study::site_entries(file, site, entries);
-    Sought::Site(site)
+    Ok(site)
 }
 
 fn put_sites(out: &mut [u8], at: usize, sites: u32) -> usize
@@ -73,15 +79,29 @@ fn say_sites(word: &[u8], sites: u32, said: &mut [u8; SAID_BYTES]) -> usize
     put_sites(said, at, sites)
 }
 
+// Says of the word, or of the file, why there is no such site.
+fn say_no_site(why: NoSite, name: &[u8], word: &[u8], said: &mut [u8; SAID_BYTES]) -> usize
+    ensures { Placed said.old 0 (no_site_text why name.now word.now) said.new result }
+{
+    match why {
+        NoSite::Missing(sites) => say_sites(word, sites, said),
+        NoSite::Bad(why, place) => {
+            program_refusals::say_answer_of(name, Answer::Refused(why, place), said)
+        }
+    }
+}
+
 // Says why there is no such site; nothing where there is.
-pub fn say_site(sought: Sought, name: &[u8], word: &[u8], said: &mut [u8; SAID_BYTES]) -> usize
+pub fn say_site(
+    sought: Result<u32, NoSite>,
+    name: &[u8],
+    word: &[u8],
+    said: &mut [u8; SAID_BYTES],
+) -> usize
     ensures { Placed said.old 0 (sought_text sought name.now word.now) said.new result }
 {
     match sought {
-        Sought::Site(_) => 0,
-        Sought::Missing(sites) => say_sites(word, sites, said),
-        Sought::Bad(why, place) => {
-            program_refusals::say_answer_of(name, Answer::Refused(why, place), said)
-        }
+        Ok(_) => 0,
+        Err(why) => say_no_site(why, name, word, said),
     }
 }

@@ -8,8 +8,7 @@ use Rattle.program_words.specs.Words.{word_at}
 use Rattle.program_wish.specs.Wish.{same, wish_of, version_text}
 use Rattle.program_wish.specs.declared.Wish.{Wish}
 use Rattle.program_wish.specs.declared.Wish.TheVariants.{Help as ForHelp, Version as ForVersion, Work}
-use Rattle.program_outcome.specs.declared.Input.{Input}
-use Rattle.program_outcome.specs.Outcome.{Outcome, printing, saying, with_file}
+use Rattle.program_outcome.specs.Outcome.{Input, Outcome, printing, saying, with_file}
 use Rattle.program_site.specs.Site.{sought, with_site}
 use Rattle.program_study.specs.declared.Job.{Job}
 use Rattle.program_study.specs.declared.Job.TheVariants.{Make, Show, Convert, Point, TooMany, Use, Help, Version}

@@ -11,11 +11,10 @@ ghost use Rattle.program_study.specs.Working.{use_most};
 
 use layout::ENTRIES;
 use program_outcome::{AREA_BYTES, Input, Lengths, Remark, SAID_BYTES};
-use program_site::Sought;
 use program_wish::Wish;
 use text_writer::TEXT_BYTES;
 
-// Room for what is printed.
+// Room for what is printed; how much of it is used stands beside it, since there is no heap.
 pub const PRINTED_BYTES: usize = TEXT_BYTES;
 
 // The arguments before the first text: the program's name, the job's, and the study's.
@@ -33,6 +32,7 @@ pub const STUDY: usize = 1;
 
 const SITE: usize = 2;
 
+// A value and no closure: the job is known before its files are read, and `told_of` has a row for each.
 #[derive(Clone, Copy)]
 pub enum Job {
     Make,
@@ -50,13 +50,11 @@ pub enum Job {
 fn job_with(count: usize, takes: usize, job: Job) -> Job
     ensures { result ≡ job_with count takes job }
 {
-    if count == takes {
-        return job;
-    }
-    Job::Use
+    if count == takes { job } else { Job::Use }
 }
 
 // What there is to do, by the number of arguments and the job's name.
+#[tactic(auto, unfolding(crate::specs::Run::work_of, text::specs::Text::ascii))]
 fn work_of(count: usize, word: &[u8]) -> Job
     ensures { result ≡ work_of count word.now }
 {
@@ -82,6 +80,7 @@ fn work_of(count: usize, word: &[u8]) -> Job
 }
 
 // The same, or what is asked for in its place.
+#[tactic(auto, unfolding(crate::specs::Run::job_of))]
 pub fn job_of(count: usize, word: &[u8]) -> Job
     ensures { result ≡ job_of count word.now }
 {
@@ -96,16 +95,10 @@ pub fn job_of(count: usize, word: &[u8]) -> Job
 pub fn texts_in(count: usize) -> u32
     ensures { result ≡ texts_in count }
 {
-    if count <= BEFORE_TEXTS {
-        return 0;
-    }
-    let texts = count - BEFORE_TEXTS;
-    if study::MOST_SITES < texts {
-        return study::MOST_SITES as u32;
-    }
-    texts as u32
+    count.saturating_sub(BEFORE_TEXTS).min(study::MOST_SITES) as u32
 }
 
+#[tactic(auto, unfolding(crate::specs::Run::study_use, text::specs::Text::ascii))]
 fn put_use(out: &mut [u8]) -> usize
     requires { use_most ≤ length out.old }
     ensures { Placed out.old 0 study_use out.new result }
@@ -141,18 +134,18 @@ pub fn tell(job: Job, printed: &mut [u8; PRINTED_BYTES], said: &mut [u8; SAID_BY
     ensures { Left (told_of job) printed.old said.old printed.new said.new result }
 {
     match job {
-        Job::Make => program_outcome::only_said(0),
-        Job::Show => program_outcome::only_said(0),
-        Job::Convert => program_outcome::only_said(0),
-        Job::TooMany => program_outcome::only_said(text::put_bytes(
+        Job::Make => Lengths::said(0),
+        Job::Show => Lengths::said(0),
+        Job::Convert => Lengths::said(0),
+        Job::TooMany => Lengths::said(text::put_bytes(
             said,
             0,
             b"a study holds at most 165 junctions\n",
         )),
-        Job::Use => program_outcome::only_said(put_use(said)),
-        Job::Help => program_outcome::only_printed(put_use(printed)),
-        Job::Version => program_outcome::only_printed(program_wish::put_version(printed)),
-        Job::Point => program_outcome::only_printed(put_point(printed)),
+        Job::Use => Lengths::said(put_use(said)),
+        Job::Help => Lengths::printed(put_use(printed)),
+        Job::Version => Lengths::printed(program_wish::put_version(printed)),
+        Job::Point => Lengths::printed(put_point(printed)),
     }
 }
 
@@ -169,13 +162,8 @@ fn show_site(
     let mut entries = [0u32; ENTRIES];
     let sought = program_site::read_site(file, word, &mut entries);
     match sought {
-        Sought::Site(_) => program_outcome::only_printed(put_text(&entries, printed)),
-        Sought::Missing(_) => {
-            program_outcome::only_said(program_site::say_site(sought, name, word, said))
-        }
-        Sought::Bad(_, _) => {
-            program_outcome::only_said(program_site::say_site(sought, name, word, said))
-        }
+        Ok(_) => Lengths::printed(put_text(&entries, printed)),
+        Err(_) => Lengths::said(program_site::say_site(sought, name, word, said)),
     }
 }
 
@@ -191,8 +179,8 @@ pub fn show(
         printed.old said.old printed.new said.new result }
 {
     let name = program_words::word(words, STUDY);
-    let Input::Read(size) = input else {
-        return program_outcome::only_said(program_outcome::say(name, Remark::Unread, said));
+    let Some(size) = input else {
+        return Lengths::said(program_outcome::say(name, Remark::Unread, said));
     };
     let file = program_outcome::front(area, size);
     show_site(name, program_words::word(words, SITE), file, printed, said)

@@ -1,51 +1,49 @@
 // Whether a file may be written where another may stand: a study file may be replaced, anything else stays as it is.
 #![tactic(auto)]
 
-ghost use Rattle.text.specs.Text.{Placed};
+ghost use Rattle.std.specs.Prelude.{⊤};
+ghost use Rattle.program_outcome.specs.Outcome.{Tells};
 ghost use Rattle.program_target.specs.Target.{bytes_text, target_text};
 
 use answers::Answer;
 use program_outcome::{AREA_BYTES, Remark, SAID_BYTES};
 
-// What was found where a file is to be written: nothing; a file, of which so many bytes were read; a symbolic link; or something
-// that is no file, or that cannot be read and written.
-#[derive(Clone, Copy)]
-pub enum Found {
-    Absent,
-    Bytes(usize),
-    Link,
-    Closed,
-}
+// What was found where a file is to be written: a file, of which so many bytes were read; nothing; or why none can be written there.
+pub type Found = Result<Option<usize>, Remark>;
 
 // Says why a file of these bytes stays, if it does.
-fn judge_bytes(name: &[u8], file: &[u8], whole: bool, said: &mut [u8; SAID_BYTES]) -> usize
-    ensures { Placed said.old 0 (bytes_text name.now file.now whole) said.new result }
+fn judge_bytes(
+    name: &[u8],
+    file: &[u8],
+    whole: bool,
+    said: &mut [u8; SAID_BYTES],
+) -> Result<(), usize>
+    ensures { Tells (bytes_text name.now file.now whole) said.old said.new (λ _. ⊤) result }
 {
     let answer = study::check(file);
     if let Answer::Refused(_, _) = answer {
-        return program_outcome::say(name, Remark::InTheWay, said);
+        return Err(program_outcome::say(name, Remark::InTheWay, said));
     }
     if whole {
-        return 0;
+        return Ok(());
     }
-    program_outcome::say(name, Remark::Stays, said)
+    Err(program_outcome::say(name, Remark::Stays, said))
 }
 
-// Says why a file may not be written; how many bytes are said, none where it may be. What was found was read into the area;
-// whether all that was asked for was done is told, since a study is replaced only then.
+// Says why a file may not be written, if it may not. What was found was read into the area; whether all that was asked for was
+// done is told, since a study is replaced only then.
 pub fn judge(
     found: Found,
     name: &[u8],
     area: &[u8; AREA_BYTES],
     whole: bool,
     said: &mut [u8; SAID_BYTES],
-) -> usize
-    ensures { Placed said.old 0 (target_text found name.now area.now whole) said.new result }
+) -> Result<(), usize>
+    ensures { Tells (target_text found name.now area.now whole) said.old said.new (λ _. ⊤) result }
 {
     match found {
-        Found::Absent => 0,
-        Found::Bytes(size) => { judge_bytes(name, program_outcome::front(area, size), whole, said) }
-        Found::Link => program_outcome::say(name, Remark::IsLink, said),
-        Found::Closed => program_outcome::say(name, Remark::Unwritten, said),
+        Ok(None) => Ok(()),
+        Ok(Some(size)) => judge_bytes(name, program_outcome::front(area, size), whole, said),
+        Err(why) => Err(program_outcome::say(name, why, said)),
     }
 }

@@ -10,6 +10,7 @@ use contract.Lifetimes.{Lfts}
 use contract.Notation.{connectives}
 use denote.Triple.Clauses.{AtExit}
 use borrow.Fn.World.{World, ArgsD, ResD, Pr}
+use Rattle.std.specs.Prelude.{Some, ⊤}
 use Rattle.layout.specs.declared.Worksheet.{Worksheet}
 use Rattle.layout.specs.Entries.{entry_count}
 use Rattle.layout.specs.Open.{place_count, blocks_count}
@@ -22,9 +23,9 @@ use Rattle.study_changed.proofs.Written.{changed_study as study_changed}
 use Rattle.text.specs.Text.{Placed}
 use Rattle.program_words.specs.Words.{word_at}
 use Rattle.program_outcome.specs.declared.Call.{Call}
-use Rattle.program_outcome.specs.declared.Input.TheVariants.{Read}
 use Rattle.program_outcome.specs.declared.Lengths.{Lengths}
 use Rattle.program_outcome.specs.Outcome.{Outcome, writing, Left}
+use Rattle.program_outcome.specs.Outcome.{Tells}
 use Rattle.program_sheet.specs.Run.{asks_all, sheet_run, pages_of, page_at}
 use Rattle.program_sheet.specs.Whole.{pages_up_to, sheet_whole}
 use Rattle.program_sheet.proofs.Whole.{all_pages as pages_whole}
@@ -143,7 +144,7 @@ made_of_texts = texts_made
 -- PAGE AFTER PAGE. Where all sites of a study are asked for, `icusheet` gives their pages in order, and nothing else.
 pub all_pages :
     (k : Worksheet) (words area : List ℕ) (size : ℕ) → asks_all (word_at words 1) ≡ true → 0 < count_of (take size area)
-    → let call : Call = record { worksheet = k; arguments = 3; input = Read size } in
+    → let call : Call = record { worksheet = k; arguments = 3; input = Some size } in
     sheet_whole call words area ≡ pages_up_to call words area (count_of (take size area))
 all_pages = pages_whole
 
@@ -249,7 +250,7 @@ add_keeps = add_met.met
 pub add_promises :
     (κs : Lfts 4) (a : ArgsD add.signature κs) (r : ResD add.signature κs) (s : AtExit add.ended κs) (w : World)
     → Both w (add_reads.ensures κs a tt r s w)
-    (Placed a.1.1.1.1.1.0.now 0 (text_says a.1.0 a.0.now a.1.1.0.now) s.1.1.1.1.1.0.now r)
+    (Tells (text_says a.1.0 a.0.now a.1.1.0.now) a.1.1.1.1.1.0.now s.1.1.1.1.1.0.now (λ _. ⊤) r)
     (s.1.1.1.1.0.now ≡ text_adds a.1.0 a.1.1.0.now a.1.1.1.0 a.1.1.1.1.0.now)
 add_promises κs a r s w = refl
 
@@ -289,7 +290,7 @@ target_keeps = target_met.met
 pub target_promises :
     (κs : Lfts 3) (a : ArgsD target.signature κs) (r : ResD target.signature κs) (s : AtExit target.ended κs) (w : World)
     → Exactly w (target_reads.ensures κs a tt r s w)
-    (Placed a.1.1.1.1.0.now 0 (target_text a.0 a.1.0.now a.1.1.0.now a.1.1.1.0) s.1.1.1.1.0.now r)
+    (Tells (target_text a.0 a.1.0.now a.1.1.0.now a.1.1.1.0) a.1.1.1.1.0.now s.1.1.1.1.0.now (λ _. ⊤) r)
 target_promises κs a r s w = refl
 
 pub diamond_keeps : {M : Type 1} → diamond_stated.statement M

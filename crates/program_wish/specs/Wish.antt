@@ -1,5 +1,6 @@
 -- What a program is asked for: in place of its work, how it is called, or its version; before it, which worksheet.
-use Rattle.std.specs.Prelude.{ℕ, ◌-◌, Bool, true, false, cond, ◌&&◌, List, [], ◌∷◌, eqb}
+use Rattle.std.specs.Prelude.{ℕ, ◌-◌, Bool, cond, List, eqb}
+use Rattle.std.specs.Str.{bytes_eq}
 use Rattle.layout.specs.declared.Worksheet.{Worksheet}
 use Rattle.layout.specs.declared.Worksheet.TheVariants.{Junction, Point}
 use Rattle.text.specs.Text.{ascii}
@@ -9,10 +10,7 @@ use Rattle.program_wish.specs.declared.Wish.TheVariants.{Help, Version, Work}
 
 -- whether two words are the same
 unfoldable pub same : List ℕ → List ℕ → Bool
-same [] [] = true
-same [] (other ∷ others) = false
-same (byte ∷ bytes) [] = false
-same (byte ∷ bytes) (other ∷ others) = eqb byte other && same bytes others
+same = bytes_eq
 
 -- the number of arguments with one word, the program's name among them
 abbrev pub one_word : ℕ

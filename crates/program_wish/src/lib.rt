@@ -8,6 +8,7 @@ ghost use Rattle.program_wish.specs.Working.{version_most};
 
 use layout::Worksheet;
 
+// Each program matches on it: with its use and its work as closures over lent areas, one head for all would be no shorter.
 #[derive(Clone, Copy)]
 pub enum Wish {
     Help,
@@ -19,13 +20,15 @@ pub enum Wish {
 const ONE_WORD: usize = 2;
 
 // Whether two words are the same.
+#[tactic(auto, unfolding(crate::specs::Wish::same))]
 pub fn is_same(word: &[u8], other: &[u8]) -> bool
     ensures { result ≡ same word.now other.now }
 {
-    check::same(word, other)
+    word == other
 }
 
 // What is wished for, by the number of arguments and the first word.
+#[tactic(auto, unfolding(crate::specs::Wish::wish_of, text::specs::Text::ascii))]
 pub fn wish_of(count: usize, word: &[u8]) -> Wish
     ensures { result ≡ wish_of count word.now }
 {
@@ -42,6 +45,7 @@ pub fn wish_of(count: usize, word: &[u8]) -> Wish
 }
 
 // Puts the version's line at the front.
+#[tactic(auto, unfolding(crate::specs::Wish::version_text, text::specs::Text::ascii))]
 pub fn put_version(out: &mut [u8]) -> usize
     requires { version_most ≤ length out.old }
     ensures { Placed out.old 0 version_text out.new result }
@@ -50,6 +54,7 @@ pub fn put_version(out: &mut [u8]) -> usize
 }
 
 // The worksheet that the first word asks for.
+#[tactic(auto, unfolding(crate::specs::Wish::worksheet_of, text::specs::Text::ascii))]
 pub fn worksheet_of(words: &[u8]) -> Worksheet
     ensures { result ≡ worksheet_of words.now }
 {
@@ -75,11 +80,6 @@ pub fn arguments_for(kind: Worksheet, count: usize) -> usize
 {
     match kind {
         Worksheet::Junction => count,
-        Worksheet::Point => {
-            if count == 0 {
-                return 0;
-            }
-            count - 1
-        }
+        Worksheet::Point => count.saturating_sub(1),
     }
 }

@@ -1,14 +1,17 @@
 -- Laws of words that are ended by a byte 0: a word is the front of its bytes, and it is passed byte after byte.
 use Prim.Native.Nat.{ℕ, suc, ◌+◌, ◌-◌, ◌<◌, ◌≤◌}
-use mathlib.Core.Path.{◌≡◌, refl, ◌∙◌}
+use mathlib.Core.Path.{◌≡◌, refl, sym, ◌∙◌}
 use mathlib.Core.List.{List, [], ◌∷◌}
-use mathlib.Core.Bool.{Bool, true, false}
-use lib.ListN.{length, get_or, take, drop, drop_of_length-le}
-use lib.Seq.{drop-cons, drop-drop}
-use lib.Dec.{eqb}
-use borrow.Author.Tests.{eq-eqb, ne_eqb}
-use native.Mathlib.Numerals.{add-one}
+use mathlib.Core.Bool.{Bool, true, false, cond}
+use lib.ListN.{length, take, drop, length-take, drop_of_length-le}
+use lib.Seq.{drop-drop}
+use borrow.Author.Tests.{ltb-false}
+use lib.Dec.{eqb, ltb}
 use native.Mathlib.Omega.{arith}
+use Rattle.std.proofs.Common.{Some, None}
+use Rattle.std.proofs.lemmas.List.Recursion.{is_position_or_len}
+use Rattle.std.specs.List.{position, position_or_len}
+use Rattle.std.specs.Option.{unwrap_or}
 use Rattle.program_words.specs.Words.{first_word, later_words, word_at}
 
 -- the first word is the front, and the later ones follow its end
@@ -33,34 +36,33 @@ later_rest (byte ∷ bytes) = by (eqb byte 0) refl (later_rest bytes)
     by true e rest = rw e
     by false e rest = rw e rest
 
--- where the word ends that begins at a place, seen from a place within it
+-- the first word ends at the first byte 0, or with the bytes
+length-first_word : (words : List ℕ) → length (first_word words) ≡ position_or_len (λ byte. eqb byte 0) words
+unfolding first_word
+length-first_word = is_position_or_len (λ words. length (first_word words)) (λ byte. eqb byte 0) refl (λ byte bytes. by (eqb byte 0) byte (first_word bytes))
+  where
+    by : (b : Bool) (byte : ℕ) (word : List ℕ) → length (cond b [] (byte ∷ word)) ≡ cond b 0 (1 + length word)
+    by true byte word = refl
+    by false byte word = omega arith
 
-pub record Passed (words : List ℕ) (from at : ℕ) : Type 0 where
-  pub few : at ≤ length words
-  pub past : from ≤ at
-  pub end : from + length (first_word (drop from words)) ≡ at + length (first_word (drop at words))
+pub first_within : (words : List ℕ) → length (first_word words) ≤ length words
+first_within words =
+    let front = length-take (length (first_word words)) words in
+    omega (arith, rw first_front at front)
+
+-- so its end is the place that a search for that byte finds, or else the end
+pub end_is : (words : List ℕ) → unwrap_or (position (λ byte. eqb byte 0) words) (length words) ≡ length (first_word words)
+end_is words = by (ltb n (length words)) refl ∙ sym (length-first_word words)
+  where
+    n : ℕ
+    n = position_or_len (λ byte. eqb byte 0) words
+
+    by : (b : Bool) → ltb n (length words) ≡ b → unwrap_or (cond b (Some n) None) (length words) ≡ n
+    by true e = refl
+    by false e = omega (arith, ltb-false _ _ e, length-first_word words, first_within words)
 
 module _ (words : List ℕ) where
-  pub one_passed : (from at : ℕ) → at < length words → (get_or words at 0 ≡ 0 → ⊥) → Passed words from at → Passed words from (at + 1)
-  unfolding first_word
-  one_passed from at within other p =
-      let more : length (first_word (drop at words)) ≡ suc (length (first_word (drop (suc at) words))) =
-      rw (drop-cons words at 0 within, ne_eqb (get_or words at 0) 0 other) in
-      record { few = omega arith; past = omega (arith, p.past); end = rw (add-one at) (omega (arith, p.end, more)) }
-
-  pub ends_at : (from at : ℕ) → at < length words → get_or words at 0 ≡ 0 → Passed words from at → at ≡ from + length (first_word (drop from words))
-  unfolding first_word
-  ends_at from at within zero_there p =
-      let none : length (first_word (drop at words)) ≡ 0 = rw (drop-cons words at 0 within, eq-eqb (get_or words at 0) 0 zero_there) in
-      omega (arith, p.end, none)
-
-  pub ends_last : (from at : ℕ) → length words ≤ at → Passed words from at → at ≡ from + length (first_word (drop from words))
-  unfolding first_word
-  ends_last from at over p =
-      let none : length (first_word (drop at words)) ≡ 0 = rw (drop_of_length-le words {i = at} over) in
-      omega (arith, p.end, none)
-
-  -- so the word is what stands from its place to its end, and the next one begins past that
+  -- the word is what stands from its place to its end, and the next one begins past that
   pub word_is : (from end : ℕ) → end ≡ from + length (first_word (drop from words)) → take (end - from) (drop from words) ≡ first_word (drop from words)
   word_is from end e =
       let size : end - from ≡ length (first_word (drop from words)) = omega arith in

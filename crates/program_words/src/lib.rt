@@ -9,14 +9,11 @@ fn end_of(words: &[u8], from: usize) -> usize
     requires { from ≤ length words.now }
     ensures { (result ≡ from + length (first_word (drop from words.now))) × (result ≤ length words.now) }
 {
-    let mut at = from;
-    while at < words.len() {
-        if words[at] == 0 {
-            return at;
-        }
-        at += 1;
-    }
-    at
+    let rest = &words[from..];
+    from + rest
+        .iter()
+        .position(|byte| *byte == 0)
+        .unwrap_or(rest.len())
 }
 
 // Where the word after it begins; at the end, where there is none.
@@ -43,11 +40,9 @@ pub fn past_first(words: &[u8]) -> &[u8]
 pub fn word(words: &[u8], n: usize) -> &[u8]
     ensures { result.now ≡ word_at words.now n }
 {
-    let mut from: usize = 0;
-    let mut i: usize = 0;
-    while i < n {
+    let mut from = 0;
+    for _ in 0..n {
         from = next_after(words, from);
-        i += 1;
     }
     let end = end_of(words, from);
     &words[from..end]

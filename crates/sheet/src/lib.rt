@@ -1,18 +1,17 @@
 // The sheet filled from its entries.
 #![tactic(auto)]
 
-ghost use Rattle.std.specs.Prelude.{◌≡◌, ◌++◌, ◌+◌, ◌*◌, ◌<◌, ◌≤◌, length, take};
+ghost use Rattle.std.specs.Prelude.{◌≡◌, ◌++◌, ◌+◌, ◌*◌, ◌<◌, ◌≤◌, length};
 ghost use Rattle.answers.specs.declared.Answer.TheVariants.{Accepted};
 ghost use Rattle.lists.specs.Lists.{over};
-ghost use Rattle.layout.specs.declared.Worksheet.TheVariants.{Junction as JunctionSheet, Point as PointSheet};
 ghost use Rattle.layout.specs.Entries.{approach_count, entry_count, EB, WB, NB, SB};
-ghost use Rattle.layout.specs.Sheet.{line_count, pair_cells as pair_cell_count, pairs_from, last_cells, sheet_count};
+ghost use Rattle.layout.specs.Sheet.{line_count, pair_cells as pair_cell_count, pairs_from, sheet_count};
 ghost use Rattle.entries.specs.Judging.{judged_for, judged};
 ghost use Rattle.procedure.specs.Approach.{read_approach};
 ghost use Rattle.procedure.specs.Pairs.{picked_time};
 ghost use Rattle.procedure.specs.Sheet.{last_at, sheet_for};
 ghost use Rattle.line_bounds.specs.Bounds.{most_picked};
-ghost use Rattle.line_stages.specs.Cells.{first_cells, later_cells, cells_for};
+ghost use Rattle.line_stages.specs.Cells.{cells_for};
 ghost use Rattle.sheet_pairs.specs.Cells.{pair_cells, pair_in};
 ghost use Rattle.sheet_street.specs.Street.{StreetAt};
 ghost use Rattle.sheet.specs.Working.{RightsAt, SmallPair, rest_at};
@@ -21,7 +20,7 @@ ghost use Rattle.sheet.specs.Fill.{fill_answer, filled};
 use answers::Answer;
 use kinds::FreeRight;
 use layout::{EB, NB, SB, WB, Worksheet};
-use line_stages::{First, Later, Lines};
+use line_stages::Lines;
 use sheet_pairs::Pair;
 use sheet_street::Street;
 use sheet_totals::{Rights, right_of};
@@ -74,38 +73,18 @@ fn last_at(
     sheet_totals::last_of(rights, both, procedure::read_cycle(entries))
 }
 
-// The first of the numbers, as many as are asked for.
-fn put_some(all: &mut [u32], at: usize, numbers: &[u32], count: usize)
-    requires { (at + count ≤ length all.old) × (count ≤ length numbers.now) }
-    ensures { all.new ≡ over all.old at (take count numbers.now) }
-{
-    lists::put(all, at, &numbers[..count]);
-}
-
-fn put_first(all: &mut [u32], at: usize, first: First)
-    requires { at + line_count PointSheet ≤ length all.old }
-    ensures { all.new ≡ over all.old at (first_cells first) }
-{
-    let cells = lines::first_cells(first);
-    lists::put(all, at, &cells);
-}
-
-fn put_later(all: &mut [u32], at: usize, later: Later)
-    requires { at + line_count JunctionSheet ≤ length all.old + line_count PointSheet }
-    ensures { all.new ≡ over all.old at (later_cells later) }
-{
-    let cells = lines::later_cells(later);
-    lists::put(all, at, &cells);
-}
-
 // The lines that a sheet of a kind has: 1–18, and past them a junction's others.
 fn put_lines(kind: Worksheet, all: &mut [u32], at: usize, lines: Lines)
     requires { at + line_count kind ≤ length all.old }
     ensures { all.new ≡ over all.old at (cells_for kind lines) }
 {
-    put_first(all, at, lines.first);
+    lists::put(all, at, &lines::first_cells(lines.first));
     if let Worksheet::Junction = kind {
-        put_later(all, at + layout::POINT_LINES, lines.later);
+        lists::put(
+            all,
+            at + layout::POINT_LINES,
+            &lines::later_cells(lines.later),
+        );
     }
 }
 
@@ -114,14 +93,7 @@ fn put_pair(kind: Worksheet, all: &mut [u32], at: usize, pair: Pair)
     ensures { all.new ≡ over all.old at (pair_in kind pair) }
 {
     let cells = sheet_pairs::cells_of(pair);
-    put_some(all, at, &cells, kind.pair_cells());
-}
-
-fn put_last(all: &mut [u32], at: usize, last: [u32; layout::LAST_CELLS])
-    requires { at + last_cells ≤ length all.old }
-    ensures { all.new ≡ over all.old at last }
-{
-    lists::put(all, at, &last);
+    lists::put(all, at, &cells[..kind.pair_cells()]);
 }
 
 // The lines of a street's approaches, one after the other.
@@ -173,7 +145,7 @@ fn put_rest(
     ensures { all.new ≡ over all.old (pairs_from kind) (pair_in kind along ++ pair_in kind across ++ last) }
 {
     put_pairs(kind, all, along, across);
-    put_last(all, kind.last_from(), last);
+    lists::put(all, kind.last_from(), &last);
 }
 
 // The pairs' cells and the last of the two streets.

@@ -6,13 +6,14 @@ ghost use Rattle.answers.specs.Answers.{left_by};
 ghost use Rattle.answers.specs.declared.Answer.TheVariants.{Accepted};
 ghost use Rattle.lists.specs.Lists.{over};
 ghost use Rattle.layout.specs.Entries.{approach_count};
-ghost use Rattle.layout.specs.Sheet.{lines_of, in_pair, pair_of, sheet_count, beside_numbers, page_count};
+ghost use Rattle.layout.specs.Sheet.{sheet_count, beside_numbers, page_count};
 ghost use Rattle.entries.specs.Judging.{judged_for, judged};
 ghost use Rattle.procedure.specs.Ranges.{Fair, FairCycle};
 ghost use Rattle.procedure.specs.Approach.{read_approach};
 ghost use Rattle.procedure.specs.Sheet.{sheet_for};
 ghost use Rattle.entries.specs.Layout.{cycle as cycle_of};
 ghost use Rattle.procedure.specs.Pairs.{pick_of};
+ghost use Rattle.sheet_pairs.specs.Picks.{pick_at};
 ghost use Rattle.sheet_beside.specs.Beside.{own_lane, lane_for, line_in, pair_in, through_in, left_in, added};
 ghost use Rattle.sheet_beside.specs.Beside.{beside_at, beside_of, beside, filled_beside};
 
@@ -20,6 +21,7 @@ use answers::Answer;
 use kinds::Cycle;
 use layout::{EB, NB, PAGE_CELLS, SB, WB, Worksheet};
 use procedure::Approach;
+use sheet_pairs::Pick;
 
 // Of the left group's own lane: its volume, its equivalents and its flow.
 const LANE_NUMBERS: usize = 3;
@@ -55,36 +57,20 @@ fn cell_in(cells: &[u32], from: usize, count: usize, i: usize) -> u32
     cells[from + i]
 }
 
-// The cell of an approach's first line.
-fn lines_of(kind: Worksheet, a: usize) -> usize
-    requires { a < approach_count }
-    ensures { result ≡ lines_of kind a }
-{
-    layout::LINES_FROM + kind.lines() * a
-}
-
-// The first cell of an approach's pair.
-fn pair_of(kind: Worksheet, a: usize) -> usize
-    requires { a < approach_count }
-    ensures { result ≡ pair_of kind (a / in_pair) }
-{
-    kind.pairs_from() + kind.pair_cells() * (a / layout::IN_PAIR)
-}
-
 // A line of an approach; 0 where the sheet ends before it.
 fn line_in(kind: Worksheet, cells: &[u32], a: usize, line: usize) -> u32
     requires { (length cells.now ≡ sheet_count kind) × (a < approach_count) × (0 < line) }
     ensures { result ≡ line_in kind cells.now a line }
 {
-    cell_in(cells, lines_of(kind, a), kind.lines(), line - 1)
+    cell_in(cells, kind.lines_of(a), kind.lines(), line - 1)
 }
 
-// The pick of an approach's pair; 0 where there is nothing to pick.
-fn pick_in(kind: Worksheet, cells: &[u32], a: usize) -> u32
+// The pick of an approach's pair; protected where there is nothing to pick.
+fn pick_in(kind: Worksheet, cells: &[u32], a: usize) -> Pick
     requires { (length cells.now ≡ sheet_count kind) × (a < approach_count) }
-    ensures { result ≡ pick_of (pair_in kind cells.now a) }
+    ensures { result ≡ pick_at (pick_of (pair_in kind cells.now a)) }
 {
-    cell_in(cells, pair_of(kind, a), kind.pair_cells(), layout::PICK)
+    Pick::at(cell_in(cells, kind.pair_of(a), kind.pair_cells(), layout::PICK))
 }
 
 // The time of an approach's through, by the pick of its pair.
@@ -92,12 +78,10 @@ fn through_in(kind: Worksheet, cells: &[u32], a: usize) -> u32
     requires { (length cells.now ≡ sheet_count kind) × (a < approach_count) }
     ensures { result ≡ through_in kind cells.now a }
 {
-    let split = line_in(kind, cells, a, 28);
-    sheet_pairs::by_pick(
-        pick_in(kind, cells, a),
+    pick_in(kind, cells, a).choose(
         line_in(kind, cells, a, 17),
         line_in(kind, cells, a, 26),
-        split,
+        line_in(kind, cells, a, 28),
     )
 }
 
@@ -106,13 +90,7 @@ fn left_in(kind: Worksheet, cells: &[u32], a: usize) -> u32
     requires { (length cells.now ≡ sheet_count kind) × (a < approach_count) }
     ensures { result ≡ left_in kind cells.now a }
 {
-    let split = line_in(kind, cells, a, 28);
-    sheet_pairs::by_pick(
-        pick_in(kind, cells, a),
-        line_in(kind, cells, a, 16),
-        0,
-        split,
-    )
+    pick_in(kind, cells, a).choose(line_in(kind, cells, a, 16), 0, line_in(kind, cells, a, 28))
 }
 
 // What the right total of an approach adds to line 18, with o opposite it and c's through across it.

@@ -1,19 +1,78 @@
 // The four cells of a pair of opposite approaches: protected, permitted, split, and the one that is picked.
 #![tactic(auto)]
 
-ghost use Rattle.std.specs.Prelude.{◌≡◌, cond, ◌||◌, [], ◌∷◌, ◌+◌, ◌≤◌, max, eqb, leb};
+ghost use Rattle.std.specs.Prelude.{◌≡◌, cond, ◌||◌, [], ◌∷◌, ◌+◌, ◌≤◌, max, eqb};
 ghost use Rattle.layout.specs.Sheet.{BLANK as blank};
-ghost use Rattle.procedure.specs.Pairs.{protected, picked, pair, pair_for, pick_of, by_pick};
+ghost use Rattle.procedure.specs.Pairs.{protected, picked, pair, pair_for, pick_of};
 ghost use Rattle.line_bounds.specs.Bounds.{most_adjusted, Bounded};
 ghost use Rattle.line_stages.specs.Cells.{cells_of, cells_for};
+ghost use Rattle.sheet_pairs.specs.Picks.{pick_number, pick_at, chosen};
 ghost use Rattle.sheet_pairs.specs.Cells.{pair_cells, pair_in};
 
 use layout::Worksheet;
 use line_stages::{Lines, Times};
 use units::Ms;
 
-// Where a phasing is not allowed.
+// Where a phasing is not allowed, as its cell holds it by the rules; a pick compares the cells, in which it is the largest.
 pub const BLANK: Ms = Ms(layout::BLANK);
+
+// Which phasing of a pair is picked.
+#[derive(Clone, Copy, PartialEq, Eq, Debug)]
+pub enum Pick {
+    Protected,
+    Permitted,
+    Split,
+}
+
+// The number that stands for it in the pair's cell.
+impl From<Pick> for u32 {
+    ghost from_gives = { λ pick number. number ≡ pick_number pick };
+
+    fn from(pick: Pick) -> u32 {
+        match pick {
+            Pick::Protected => 0,
+            Pick::Permitted => 1,
+            Pick::Split => 2,
+        }
+    }
+}
+
+impl Pick {
+    // The pick that a cell's number stands for: any past the first two is split.
+    pub fn at(number: u32) -> Pick
+        ensures { result ≡ pick_at number }
+    {
+        match number {
+            0 => Pick::Protected,
+            1 => Pick::Permitted,
+            _ => Pick::Split,
+        }
+    }
+
+    // The least of the three, the earlier on a tie. BLANK is larger than any time.
+    pub fn least(protected: Ms, permitted: Ms, split: Ms) -> Pick
+        ensures { pick_number result ≡ picked protected.0 permitted.0 split.0 }
+    {
+        if protected.0 <= permitted.0 && protected.0 <= split.0 {
+            Pick::Protected
+        } else if permitted.0 <= split.0 {
+            Pick::Permitted
+        } else {
+            Pick::Split
+        }
+    }
+
+    // What goes by the pick.
+    pub fn choose<T: Copy>(self, protected: T, permitted: T, split: T) -> T
+        ensures { result ≡ chosen self protected permitted split }
+    {
+        match self {
+            Pick::Protected => protected,
+            Pick::Permitted => permitted,
+            Pick::Split => split,
+        }
+    }
+}
 
 // The totals of a pair, and which of them is picked.
 #[derive(Clone, Copy)]
@@ -21,7 +80,7 @@ pub struct Pair {
     pub protected: Ms,
     pub permitted: Ms,
     pub split: Ms,
-    pub picked: u32,
+    pub picked: Pick,
 }
 
 // One approach's left with the other's through, whichever is larger; not where a lane is shared.
@@ -33,10 +92,8 @@ fn protected_time(shared: bool, x: Times, y: Times) -> Ms
     if shared {
         return BLANK;
     }
-    line_formulas::larger(
-        Ms(x.adjustedleft.0 + y.adjustedthrough.0),
-        Ms(y.adjustedleft.0 + x.adjustedthrough.0),
-    )
+    let one = Ms(x.adjustedleft.0 + y.adjustedthrough.0);
+    one.max(Ms(y.adjustedleft.0 + x.adjustedthrough.0))
 }
 
 fn permitted_time(x: Ms, y: Ms) -> Ms
@@ -48,40 +105,7 @@ fn permitted_time(x: Ms, y: Ms) -> Ms
     if y.0 == BLANK.0 {
         return BLANK;
     }
-    line_formulas::larger(x, y)
-}
-
-// Permitted or split, whichever is less.
-fn pick_unprotected(permitted: Ms, split: Ms) -> u32
-    ensures { result ≡ cond (leb permitted.0 split.0) 1 2 }
-{
-    if permitted.0 <= split.0 { 1 } else { 2 }
-}
-
-// The least of the three, the earlier on a tie. BLANK is larger than any time.
-pub fn pick(protected: Ms, permitted: Ms, split: Ms) -> u32
-    ensures { result ≡ picked protected.0 permitted.0 split.0 }
-{
-    if permitted.0 < protected.0 {
-        return pick_unprotected(permitted, split);
-    }
-    if split.0 < protected.0 {
-        return pick_unprotected(permitted, split);
-    }
-    0
-}
-
-// What goes by a pick: protected, permitted, split.
-pub fn by_pick(pick: u32, protected: u32, permitted: u32, split: u32) -> u32
-    ensures { result ≡ by_pick pick protected permitted split }
-{
-    if pick == 0 {
-        return protected;
-    }
-    if pick == 1 {
-        return permitted;
-    }
-    split
+    x.max(y)
 }
 
 // The cells of a junction's pair, from the lines of its two approaches.
@@ -96,20 +120,20 @@ fn choice_of(shared: bool, x: Lines, y: Lines) -> Pair
         protected,
         permitted,
         split,
-        picked: pick(protected, permitted, split),
+        picked: Pick::least(protected, permitted, split),
     }
 }
 
 // Of a single point's: protected is the only phasing, and so the one that is picked.
 fn protected_of(shared: bool, x: Lines, y: Lines) -> Pair
     requires { Bounded (cells_of x) × Bounded (cells_of y) }
-    ensures { (result.protected.0 ≡ protected shared (cells_of x) (cells_of y)) × (result.picked ≡ 0) }
+    ensures { (result.protected.0 ≡ protected shared (cells_of x) (cells_of y)) × (result.picked ≡ Pick.Protected) }
 {
     Pair {
         protected: protected_time(shared, x.first.times, y.first.times),
         permitted: BLANK,
         split: BLANK,
-        picked: 0,
+        picked: Pick::Protected,
     }
 }
 
@@ -117,7 +141,7 @@ fn protected_of(shared: bool, x: Lines, y: Lines) -> Pair
 pub fn pair_of(kind: Worksheet, shared: bool, x: Lines, y: Lines) -> Pair
     requires { Bounded (cells_of x) × Bounded (cells_of y) }
     ensures result_value { pair_in kind result ≡ pair_for kind shared (cells_for kind x) (cells_for kind y) }
-    ensures picked_value { result.picked ≡ pick_of (pair_in kind result) }
+    ensures picked_value { pick_number result.picked ≡ pick_of (pair_in kind result) }
 {
     match kind {
         Worksheet::Junction => choice_of(shared, x, y),
@@ -133,6 +157,6 @@ pub fn cells_of(pair: Pair) -> [u32; layout::PAIR_CELLS]
         pair.protected.0,
         pair.permitted.0,
         pair.split.0,
-        pair.picked,
+        u32::from(pair.picked),
     ]
 }

@@ -4,7 +4,7 @@
 ghost use Rattle.std.specs.Prelude.{◌≡◌, ◌+◌, ◌≤◌, max, eqb};
 ghost use Rattle.kinds.specs.declared.Kind.TheVariants.{Cycle as CycleKind};
 ghost use Rattle.kinds.specs.Kinds.{Within};
-ghost use Rattle.procedure.specs.Pairs.{line, pick_of, picked_time, through_time, left_time, right_total, icu_of, letter_of};
+ghost use Rattle.procedure.specs.Pairs.{line, picked_time, through_time, left_time, right_total, icu_of, ends_passed, letter_of};
 ghost use Rattle.procedure.specs.Sheet.{last_of};
 ghost use Rattle.line_bounds.specs.Bounds.{most_adjusted, most_picked};
 ghost use Rattle.line_stages.specs.Cells.{cells_of};
@@ -19,26 +19,22 @@ use units::Ms;
 fn through_time(pair: Pair, lines: Lines) -> Ms
     ensures { result.0 ≡ through_time (pair_cells pair) (cells_of lines) }
 {
-    if pair.picked == 0 {
-        return lines.first.times.adjustedthrough;
-    }
-    if pair.picked == 1 {
-        return lines.later.permitted.weighted;
-    }
-    lines.later.split.weighted
+    pair.picked.choose(
+        lines.first.times.adjustedthrough,
+        lines.later.permitted.weighted,
+        lines.later.split.weighted,
+    )
 }
 
 // The time of an approach's left, by the pick of its pair.
 fn left_time(pair: Pair, lines: Lines) -> Ms
     ensures { result.0 ≡ left_time (pair_cells pair) (cells_of lines) }
 {
-    if pair.picked == 0 {
-        return lines.first.times.adjustedleft;
-    }
-    if pair.picked == 1 {
-        return Ms(0);
-    }
-    lines.later.split.weighted
+    pair.picked.choose(
+        lines.first.times.adjustedleft,
+        Ms(0),
+        lines.later.split.weighted,
+    )
 }
 
 // A right turn's total, with the through that crosses it and the left that comes towards it.
@@ -80,35 +76,32 @@ pub fn right_of(
 
 // The time of a pair's picked phasing.
 pub fn picked_time(pair: Pair) -> Ms
-    requires { pick_of (pair_cells pair) ≤ 2 }
     ensures { result.0 ≡ picked_time (pair_cells pair) }
 {
-    if pair.picked == 0 {
-        return pair.protected;
-    }
-    if pair.picked == 1 {
-        return pair.permitted;
-    }
-    pair.split
+    pair.picked
+        .choose(pair.protected, pair.permitted, pair.split)
 }
 
-// How many letters end, and where, in tenths of a percent: A to G; H is above.
-const LETTER_ENDS: usize = 7;
+// Where the letters A to G end, in tenths of a percent; H is above.
+const ENDS: [u32; 7] = [550, 640, 730, 820, 910, 1_000, 1_090];
 
-const ENDS: [u32; LETTER_ENDS] = [550, 640, 730, 820, 910, 1_000, 1_090];
+// How many of the ends a number has passed.
+fn passed(ends: &[u32], number: u32) -> usize
+    ensures { result ≡ ends_passed ends.now number }
+{
+    for (i, end) in ends.iter().enumerate() {
+        if number <= *end {
+            return i;
+        }
+    }
+    ends.len()
+}
 
 // A to H as 0 to 7.
 pub fn letter_of(icu: u32) -> u32
     ensures { result ≡ letter_of icu }
 {
-    let mut letter: usize = 0;
-    while letter < LETTER_ENDS {
-        if icu <= ENDS[letter] {
-            return letter as u32;
-        }
-        letter += 1;
-    }
-    letter as u32
+    passed(&ENDS, icu) as u32
 }
 
 // Tenths of a percent, up.
@@ -133,11 +126,8 @@ pub fn last_of(rights: Rights, combined: Ms, cycle: Cycle) -> [u32; layout::LAST
     requires { Within CycleKind cycle.0 }
     ensures { result ≡ last_of rights.eb.0 rights.wb.0 rights.nb.0 rights.sb.0 combined.0 cycle.0 }
 {
-    let right = line_formulas::larger(
-        line_formulas::larger(rights.eb, rights.wb),
-        line_formulas::larger(rights.nb, rights.sb),
-    );
-    let required = line_formulas::larger(combined, right);
+    let right = rights.eb.max(rights.wb).max(rights.nb.max(rights.sb));
+    let required = combined.max(right);
     let icu = icu_of(required, cycle);
     [
         rights.eb.0,

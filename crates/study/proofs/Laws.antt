@@ -1,4 +1,4 @@
--- Laws of the two formats: both are modest, a file of either is no longer than the longest of today, and which one a file is of.
+-- Laws of the two formats: a file of either is no longer than the longest of today, and which one a file is of.
 use Prim.Native.Nat.{ℕ, ◌≤◌}
 use mathlib.Core.Path.{◌≡◌, refl, ap, ◌∙◌}
 use mathlib.Core.Bool.{Bool, true, false, cond}
@@ -12,7 +12,6 @@ use Rattle.answers.specs.declared.Answer.TheVariants.{Accepted}
 use Rattle.study_format.specs.declared.Format.{Format}
 use Rattle.study_format.specs.Format.{starts_with, block_bytes}
 use Rattle.study_format.specs.Format as format
-use Rattle.study_format.specs.Working.{Modest}
 use Rattle.study_format.proofs.Laws.{other_opening, accepted, has_site, length-site_block, within_largest}
 use Rattle.lists.proofs.Laws.{length-table}
 use Rattle.study_before.specs.Before.{widened}
@@ -20,12 +19,6 @@ use Rattle.study_before.proofs.Laws.{length-widened}
 use Rattle.study.specs.Study.{site_limit, icut, limit_before, icus, is_old, format_of, file_bytes, sites_of, judgement, site_answer, site_block}
 use Rattle.study.specs.Study.{is_before, block_answer, block_entries, site_entries_answer, site_entries}
 use Rattle.layout.specs.Entries.{entry_count}
-
-pub modest_today : Modest icut
-modest_today = record { opens = refl; entries = omega arith; sites = omega arith; fits = omega arith }
-
-pub modest_before : Modest icus
-modest_before = record { opens = refl; entries = omega arith; sites = omega arith; fits = omega arith }
 
 -- what holds of both formats holds of any file's
 pub of_either : (P : Format → Type 0) → P icus → P icut → (file : List ℕ) → P (format_of file)
@@ -35,9 +28,6 @@ of_either P before today file = go (starts_with file icus.opening)
     go : (t : Bool) → P (cond t icus icut)
     go true = before
     go false = today
-
-pub modest : (file : List ℕ) → Modest (format_of file)
-modest = of_either Modest modest_before modest_today
 
 pub few_sites : (file : List ℕ) → (format_of file).most ≤ limit_before
 few_sites = of_either (λ f. f.most ≤ limit_before) (lit≤ tt) (lit≤ tt)

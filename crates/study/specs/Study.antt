@@ -1,6 +1,7 @@
 -- "Study file and listing": the formats of study files, and what they make of a file. Request Six: "Study files with these open with
 -- "ICUT", hold blocks of 372 bytes and at most 165 sites"; ""ICUS" is still read, measured factor 0"; "Only "ICUT" is written".
-use Rattle.std.specs.Prelude.{ℕ, zero, suc, Bool, cond, List, [], ◌∷◌, ◌++◌, length, eqb}
+use Rattle.std.specs.Prelude.{ℕ, zero, suc, Bool, cond, List, [], ◌∷◌, ◌++◌, length, eqb, refl}
+use Rattle.std.proofs.Common.{lit<}
 use Rattle.layout.specs.Entries.{entry_count}
 use Rattle.answers.specs.Answers.{◌then◌}
 use Rattle.answers.specs.declared.Answer.{Answer}
@@ -14,14 +15,14 @@ site_limit = 165
 
 -- the format of today, with "ICUT"
 abbrev pub icut : Format
-icut = record { opening = 73 ∷ 67 ∷ 85 ∷ 84 ∷ []; entries = entry_count; most = site_limit }
+icut = record { opening = 73 ∷ 67 ∷ 85 ∷ 84 ∷ []; entries = entry_count; most = site_limit; opening_long = refl; some_entries = lit< tt; some_sites = lit< tt; fits = lit< tt }
 
 -- the format of before: "the four bytes "ICUS" open the file, then k (0–180), .. blocks of 81 entries"
 abbrev pub limit_before : ℕ
 limit_before = 180
 
 abbrev pub icus : Format
-icus = record { opening = 73 ∷ 67 ∷ 85 ∷ 83 ∷ []; entries = entries_before; most = limit_before }
+icus = record { opening = 73 ∷ 67 ∷ 85 ∷ 83 ∷ []; entries = entries_before; most = limit_before; opening_long = refl; some_entries = lit< tt; some_sites = lit< tt; fits = lit< tt }
 
 -- reading
 

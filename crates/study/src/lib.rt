@@ -7,7 +7,6 @@ ghost use Rattle.layout.specs.Entries.{entry_count};
 ghost use Rattle.answers.specs.Answers.{left_by};
 ghost use Rattle.study_format.specs.Format.{size_answer, block_bytes};
 ghost use Rattle.study_format.specs.Format.{block_entries as entries_in};
-ghost use Rattle.study_format.specs.Working.{Modest};
 ghost use Rattle.study_before.specs.Before.{widened};
 ghost use Rattle.study.specs.Study.{icus, limit_before, is_old, format_of, file_bytes, judgement, count_of, site_answer, site_block, block_answer, block_entries};
 ghost use Rattle.study.specs.Study.{site_entries_answer, site_entries, write_answer, file_of};
@@ -59,15 +58,12 @@ pub fn file_bytes(sites: u32) -> usize
 pub fn is_old(file: &[u8]) -> bool
     ensures { result ≡ is_old file.now }
 {
-    if file.len() < NUMBER_BYTES {
-        return false;
-    }
     ICUS.opens(file)
 }
 
-// The format by which a file is judged.
+// The format by which a file is judged. Its opening tells, at run time, so that formats are values and not types.
 fn format_of(file: &[u8]) -> Format
-    ensures { (result ≡ format_of file.now) × Modest result × (result.most ≤ limit_before) }
+    ensures { (result ≡ format_of file.now) × (result.most ≤ limit_before) }
 {
     if is_old(file) {
         return ICUS;

@@ -36,9 +36,7 @@ pub fn widen(before: &[u32], entries: &mut [u32])
     requires { (length before.now ≡ entries_before) × (length entries.old ≡ entry_count) }
     ensures { entries.new ≡ widened before.now }
 {
-    let mut i: usize = 0;
-    while i < entries.len() {
-        entries[i] = widened_at(before, i);
-        i += 1;
+    for (i, entry) in entries.iter_mut().enumerate() {
+        *entry = widened_at(before, i);
     }
 }

@@ -1,16 +1,18 @@
 -- Laws of a file's judgement: of a field, of a format's places, and what a file has that is accepted.
-use Prim.Native.Nat.{ℕ, suc, ◌+◌, ◌-◌, ◌<◌, ◌≤◌, ◌^◌}
+use Prim.Native.Nat.{ℕ, suc, ◌+◌, ◌-◌, ◌*◌, ◌<◌, ◌≤◌, ◌^◌}
 use mathlib.Core.Path.{◌≡◌, refl, sym, ap, ◌∙◌}
 use mathlib.Core.Bool.{Bool, true, false, ◌&&◌, not}
 use mathlib.Core.List.{List, [], ◌∷◌}
-use lib.ListN.{length, get_or, take, drop, length-drop, drop_of_length-le}
-use lib.Seq.{drop-cons, length-take-le}
+use lib.ListN.{length, take, drop, length-drop}
+use lib.Seq.{length-take-le}
 use lib.Dec.{ltb, leb, eqb}
 use borrow.Author.Tests.{ltb-false, leb-false, le-ltb, eqb-true, eq-eqb, not-false}
 use native.Mathlib.Nat.{mul-le-mul, mul-le-mul_left, zero-add}
-use native.Mathlib.Numerals.{add-one}
 use native.Mathlib.Decide.{dec_lt}
 use native.Mathlib.Omega.{arith}
+use Rattle.std.proofs.lemmas.Bool.Decides.{nat_tests}
+use Rattle.std.specs.Cmp.Lexicographic.{pointwise}
+use Rattle.std.specs.Coded.{Coded-set, coded_ℕ, le_prop}
 use Rattle.lists.proofs.Tests.{both_true}
 use Rattle.study_numbers.specs.Numbers.{number_bytes, number_limit, number_at}
 use Rattle.answers.specs.Answers.{◌then◌, refuse_if}
@@ -19,23 +21,21 @@ use Rattle.answers.specs.declared.Answer.{Answer}
 use Rattle.answers.specs.declared.Answer.TheVariants.{Accepted}
 use Rattle.answers.proofs.Laws.{go_on, both_accepted, not_refused, accepts, each_accepted, all_accepted}
 use Rattle.study_format.specs.declared.Format.{Format}
-use Rattle.study_format.specs.Format.{count_place, offsets_place, sites_of, offset_place, starts_with, whole, field}
+use Rattle.study_format.specs.Fields.{count_place, offsets_place, sites_of, offset_place, starts_with, whole, field}
 use Rattle.study_format.specs.Format.{block_bytes, block_place, file_bytes, opening_field, count_field, offset_field, offset_fields, ending, judgement}
 use Rattle.study_format.specs.Format.{site_answer, site_block}
-use Rattle.study_format.specs.Working.{Modest}
 
 -- the opening, byte after byte
 
-module _ (file bytes : List ℕ) (i : ℕ) where
-  pub starts_step : i < length file → i < length bytes
-      → starts_with (drop i file) (drop i bytes)
-      ≡ (eqb (get_or file i 0) (get_or bytes i 0) && starts_with (drop (i + 1) file) (drop (i + 1) bytes))
-  unfolding starts_with
-  starts_step hf hb = rw (add-one i, drop-cons file i 0 hf, drop-cons bytes i 0 hb)
+turned : (a b : ℕ) → eqb a b ≡ eqb b a
+turned a b = grind (arith, nat_tests)
 
-  pub starts_end : length bytes ≤ i → starts_with (drop i file) (drop i bytes) ≡ true
-  unfolding starts_with
-  starts_end h = rw (drop_of_length-le bytes h)
+-- the library's test of the front
+pub start_is : (file bytes : List ℕ) → starts_with file bytes ≡ pointwise eqb bytes (take (length bytes) file)
+unfolding starts_with
+start_is file [] = refl
+start_is [] (byte ∷ bytes) = refl
+start_is (first ∷ file) (byte ∷ bytes) = rw (turned first byte, start_is file bytes)
 
 -- bytes begin with others where those stand at their front, and so with no two of the same length
 pub take_of_starts_with : (file bytes : List ℕ) → starts_with file bytes ≡ true → take (length bytes) file ≡ bytes
@@ -85,22 +85,36 @@ module _ (file : List ℕ) (at : ℕ) (wrong : Bool) where
   field_right : at + number_bytes ≤ length file → wrong ≡ false → field file at wrong ≡ Accepted
   field_right h e = go_on _ (accepts File (length file) (le-ltb (length file) (at + number_bytes) h)) ∙ accepts File at e
 
+-- formats of the same fields are the same: each fact of theirs has one proof
+pub same_format : (opening : List ℕ) (entries most : ℕ) (a a' : length opening ≡ number_bytes) (b b' : 0 < entries) (c c' : 0 < most)
+    (d d' : offset_place most + number_bytes * entries * most < number_limit)
+    → ◌≡◌ {A = Format}
+    (record { opening = opening; entries = entries; most = most; opening_long = a; some_entries = b; some_sites = c; fits = d })
+    (record { opening = opening; entries = entries; most = most; opening_long = a'; some_entries = b'; some_sites = c'; fits = d' })
+same_format opening entries most a a' b b' c c' d d' =
+    let of : length opening ≡ number_bytes → 0 < entries → 0 < most → offset_place most + number_bytes * entries * most < number_limit → Format =
+    λ x y z w. record { opening = opening; entries = entries; most = most; opening_long = x; some_entries = y; some_sites = z; fits = w } in
+    ap (λ x. of x b c d) (Coded-set coded_ℕ (length opening) number_bytes a a')
+    ∙ ap (λ y. of a' y c d) (le_prop b b')
+    ∙ ap (λ z. of a' b' z d) (le_prop c c')
+    ∙ ap (λ w. of a' b' c' w) (le_prop d d')
+
 module _ (f : Format) where
   -- no place in a file is past the end of the largest one
   pub within_largest : (k j : ℕ) → k ≤ f.most → j ≤ k → block_place f k j ≤ file_bytes f f.most
   within_largest k j few below = omega (arith, mul-le-mul_left {m = j} {n = f.most} (block_bytes f) (omega arith))
 
   -- so that it is a number that a file can hold
-  pub places_fit : (k j : ℕ) → Modest f → k ≤ f.most → j ≤ k → block_place f k j < number_limit
-  places_fit k j ok few below = omega (arith, within_largest k j few below, ok.fits)
+  pub places_fit : (k j : ℕ) → k ≤ f.most → j ≤ k → block_place f k j < number_limit
+  places_fit k j few below = omega (arith, within_largest k j few below, f.fits)
 
-  pub block_fits : Modest f → block_bytes f + offset_place 1 < number_limit
-  block_fits ok = omega (arith, mul-le-mul_left {m = 1} {n = f.most} (block_bytes f) ok.sites, ok.fits)
+  pub block_fits : block_bytes f + offset_place 1 < number_limit
+  block_fits = omega (arith, mul-le-mul_left {m = 1} {n = f.most} (block_bytes f) f.some_sites, f.fits)
 
   -- the sums that lead to a place fit 64 bits, for any number of sites
-  pub sums_fit : (k j : ℕ) → Modest f → k < number_limit → j ≤ k → block_place f k j < 2 ^ 64
-  sums_fit k j ok few below =
-      let small : block_bytes f + number_bytes ≤ number_limit - offsets_place = omega (arith, block_fits ok) in
+  pub sums_fit : (k j : ℕ) → k < number_limit → j ≤ k → block_place f k j < 2 ^ 64
+  sums_fit k j few below =
+      let small : block_bytes f + number_bytes ≤ number_limit - offsets_place = omega (arith, block_fits) in
       omega (arith, mul-le-mul_left {m = j} {n = k} (block_bytes f) below, mul-le-mul {n₁ = block_bytes f + number_bytes} {m₁ = suc k} small few)
 
   -- what an accepted file has

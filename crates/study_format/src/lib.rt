@@ -8,9 +8,7 @@ ghost use Rattle.std.specs.Prelude.{◌≡◌, ◌+◌, ◌*◌, ◌≤◌, ◌<
 ghost use Rattle.study_numbers.specs.Numbers.{number_bytes, number_limit};
 ghost use Rattle.answers.specs.declared.Refusal.TheVariants.{File};
 ghost use Rattle.answers.specs.declared.Answer.TheVariants.{Refused};
-ghost use Rattle.study_format.specs.Format.{offsets_place, sites_of, starts_with, whole, block_bytes, block_place, file_bytes};
-ghost use Rattle.study_format.specs.Format.{opening_field, count_field, offset_field, offset_fields, ending, judgement};
-ghost use Rattle.study_format.specs.Working.{Modest};
+ghost use Rattle.study_format.specs.Fields.{offsets_place, offset_place, sites_of, whole};
 
 use answers::{Answer, Refusal};
 use study_numbers::NUMBER_BYTES;
@@ -31,6 +29,11 @@ pub struct Format {
     pub entries: usize,
     // The most sites that a file holds.
     pub most: usize,
+    // What serves every format: the opening is as long as a number, there is something to hold, and the largest file's end is a u32.
+    pub ghost opening_long: { length opening ≡ number_bytes },
+    pub ghost some_entries: { 0 < entries },
+    pub ghost some_sites: { 0 < most },
+    pub ghost fits: { offset_place most + number_bytes * entries * most < number_limit },
 }
 
 // The number of sites as it stands in the file.
@@ -60,9 +63,12 @@ fn check_whole(file: &[u8], at: usize) -> Answer
 }
 
 impl Format {
+    ghost use Rattle.study_format.specs.Fields.{starts_with};
+    ghost use Rattle.study_format.specs.Format.{block_bytes, block_place, file_bytes};
+    ghost use Rattle.study_format.specs.Format.{opening_field, count_field, offset_field, offset_fields, ending, judgement};
+
     // A site's block has a number for each entry.
     pub fn block_bytes(self) -> usize
-        requires { Modest self }
         ensures { result ≡ block_bytes self }
     {
         NUMBER_BYTES * self.entries
@@ -70,7 +76,7 @@ impl Format {
 
     // The offset of a site's block.
     pub fn block_place(self, sites: usize, site: usize) -> usize
-        requires { Modest self × (sites < number_limit) × (site ≤ sites) }
+        requires { (sites < number_limit) × (site ≤ sites) }
         ensures { result ≡ block_place self sites site }
     {
         OFFSETS_PLACE + NUMBER_BYTES * sites + NUMBER_BYTES * self.entries * site
@@ -78,7 +84,7 @@ impl Format {
 
     // A file ends where one block more would start.
     pub fn file_bytes(self, sites: usize) -> usize
-        requires { Modest self × (sites < number_limit) }
+        requires { sites < number_limit }
         ensures { result ≡ file_bytes self sites }
     {
         self.block_place(sites, sites)
@@ -86,22 +92,12 @@ impl Format {
 
     // Whether a file begins with the format's opening.
     pub fn opens(self, file: &[u8]) -> bool
-        requires { Modest self × (number_bytes ≤ length file.now) }
         ensures { result ≡ starts_with file.now self.opening }
     {
-        let expected = self.opening;
-        let mut i: usize = 0;
-        while i < NUMBER_BYTES {
-            if file[i] != expected[i] {
-                return false;
-            }
-            i += 1;
-        }
-        true
+        file.starts_with(&self.opening)
     }
 
     fn check_opening(self, file: &[u8]) -> Answer
-        requires { Modest self }
         ensures { result ≡ opening_field self file.now }
     {
         let whole = check_whole(file, 0);
@@ -115,7 +111,6 @@ impl Format {
     }
 
     fn check_count(self, file: &[u8]) -> Answer
-        requires { Modest self }
         ensures { result ≡ count_field self file.now }
     {
         let whole = check_whole(file, COUNT_PLACE);
@@ -129,7 +124,7 @@ impl Format {
     }
 
     fn check_offset(self, file: &[u8], sites: usize, site: usize) -> Answer
-        requires { Modest self × (sites ≤ self.most) × (site < sites) }
+        requires { (sites ≤ self.most) × (site < sites) }
         ensures { result ≡ offset_field self file.now sites site }
     {
         let at = OFFSETS_PLACE + NUMBER_BYTES * site;
@@ -144,22 +139,20 @@ impl Format {
     }
 
     fn check_offsets(self, file: &[u8], sites: usize) -> Answer
-        requires { Modest self × (sites ≤ self.most) }
+        requires { sites ≤ self.most }
         ensures { result ≡ offset_fields self file.now sites }
     {
-        let mut site: usize = 0;
-        while site < sites {
+        for site in 0..sites {
             let answer = self.check_offset(file, sites, site);
             let Answer::Accepted = answer else {
                 return answer;
             };
-            site += 1;
         }
         Answer::Accepted
     }
 
     fn check_ending(self, file: &[u8], sites: usize) -> Answer
-        requires { Modest self × (sites ≤ self.most) }
+        requires { sites ≤ self.most }
         ensures { result ≡ ending self file.now sites }
     {
         let end = self.file_bytes(sites);
@@ -176,7 +169,6 @@ impl Format {
 
     // Judges any bytes, of any length, as a study file.
     pub fn check(self, file: &[u8]) -> Answer
-        requires { Modest self }
         ensures { result ≡ judgement self file.now }
     {
         let opening = self.check_opening(file);

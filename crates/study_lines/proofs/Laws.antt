@@ -3,6 +3,7 @@ use Prim.Native.Nat.{ℕ, ◌+◌, ◌≤◌}
 use mathlib.Core.List.{List, [], ◌∷◌, ◌++◌}
 use lib.ListN.{length, length-append}
 use native.Mathlib.Omega.{arith}
+use Rattle.std.specs.Prelude.{Result, Ok, Err}
 use Rattle.answers.specs.Answers.{refusal_number}
 use Rattle.answers.specs.declared.Refusal.{Refusal}
 use Rattle.text.specs.Text.{number_then, Placed, ascii}
@@ -10,8 +11,7 @@ use Rattle.text.proofs.Laws.{length-number_then, placed_next}
 use Rattle.study_lines.specs.Lines.{space, line_feed, letter_byte, phasing_byte, rated_line, refused_mark, refused_line, line_of, file_line}
 use Rattle.study_lines.specs.Working.{line_most}
 use Rattle.study_lines.specs.declared.Rating.{Rating}
-use Rattle.study_lines.specs.declared.Site.{Site}
-use Rattle.study_lines.specs.declared.Site.TheVariants.{Rated, Refused}
+use Rattle.study_lines.specs.declared.Refused.{Refused}
 
 -- what a rated site's line has past the ICU
 abbrev ending : Rating → List ℕ
@@ -20,9 +20,9 @@ ending r = letter_byte r.letter ∷ space ∷ phasing_byte r.first ∷ phasing_b
 abbrev mark : List ℕ
 mark = refused_mark ∷ []
 
-pub length-line_of : (number : ℕ) (site : Site) → length (line_of number site) ≤ line_most
+pub length-line_of : (number : ℕ) (site : Result Rating Refused) → length (line_of number site) ≤ line_most
 unfolding rated_line refused_line
-length-line_of number (Rated r) =
+length-line_of number (Ok r) =
     let first = number_then number space in
     let second = number_then r.icu space in
     omega (
@@ -32,18 +32,18 @@ length-line_of number (Rated r) =
       length-number_then number space,
       length-number_then r.icu space,
     )
-length-line_of number (Refused why place) =
+length-line_of number (Err refused) =
     let first = number_then number space in
-    let second = number_then (refusal_number why) space in
-    let third = number_then place line_feed in
+    let second = number_then (refusal_number refused.why) space in
+    let third = number_then refused.place line_feed in
     omega (
       arith,
       length-append (first ++ mark ++ second) third,
       length-append (first ++ mark) second,
       length-append first mark,
       length-number_then number space,
-      length-number_then (refusal_number why) space,
-      length-number_then place line_feed,
+      length-number_then (refusal_number refused.why) space,
+      length-number_then refused.place line_feed,
     )
 
 pub length-file_line : (place : ℕ) → length (file_line place) ≤ line_most

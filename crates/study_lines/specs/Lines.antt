@@ -1,11 +1,10 @@
 -- "Study file and listing": the line of a site, and that of a bad file.
-use Rattle.std.specs.Prelude.{ℕ, ◌+◌, cond, List, [], ◌∷◌, ◌++◌, eqb}
+use Rattle.std.specs.Prelude.{ℕ, ◌+◌, cond, List, [], ◌∷◌, ◌++◌, eqb, Result, Ok, Err}
 use Rattle.answers.specs.Answers.{refusal_number}
 use Rattle.answers.specs.declared.Refusal.{Refusal}
 use Rattle.text.specs.Text.{ascii, number_then}
 use Rattle.study_lines.specs.declared.Rating.{Rating}
-use Rattle.study_lines.specs.declared.Site.{Site}
-use Rattle.study_lines.specs.declared.Site.TheVariants.{Rated, Refused}
+use Rattle.study_lines.specs.declared.Refused.{Refused}
 
 -- "one space between, a line feed after each line"
 abbrev pub space : ℕ
@@ -38,9 +37,9 @@ unfoldable pub refused_line : ℕ → Refusal → ℕ → List ℕ
 refused_line number why place =
     number_then number space ++ (refused_mark ∷ []) ++ number_then (refusal_number why) space ++ number_then place line_feed
 
-abbrev pub line_of : ℕ → Site → List ℕ
-line_of number (Rated r) = rated_line number r
-line_of number (Refused why place) = refused_line number why place
+abbrev pub line_of : ℕ → Result Rating Refused → List ℕ
+line_of number (Ok r) = rated_line number r
+line_of number (Err refused) = refused_line number refused.why refused.place
 
 -- "A bad file gives only `file R6` and the place."
 unfoldable pub file_line : ℕ → List ℕ

@@ -20,12 +20,11 @@ pub struct Rating {
     pub second: u32,
 }
 
-// What a site's line shows after its number.
+// Why a site has no rating, and at which place.
 #[derive(Clone, Copy)]
-pub enum Site {
-    Rated(Rating),
-    // The refusal, and its place.
-    Refused(Refusal, u32),
+pub struct Refused {
+    pub why: Refusal,
+    pub place: u32,
 }
 
 fn letter_byte(letter: u32) -> u8
@@ -38,13 +37,11 @@ fn letter_byte(letter: u32) -> u8
 fn phasing_byte(pick: u32) -> u8
     ensures { result ≡ phasing_byte pick }
 {
-    if pick == 0 {
-        return b'P';
+    match pick {
+        0 => b'P',
+        1 => b'M',
+        _ => b'S',
     }
-    if pick == 1 {
-        return b'M';
-    }
-    b'S'
 }
 
 fn put_rated(out: &mut [u8], at: usize, number: u32, rating: Rating) -> usize
@@ -59,24 +56,25 @@ fn put_rated(out: &mut [u8], at: usize, number: u32, rating: Rating) -> usize
     text::put_bytes(out, rated, &[letter, b' ', first, second, b'\n'])
 }
 
-fn put_refused(out: &mut [u8], at: usize, number: u32, why: Refusal, place: u32) -> usize
+fn put_refused(out: &mut [u8], at: usize, number: u32, site: Refused) -> usize
     requires { at + line_most ≤ length out.old }
-    ensures { Placed out.old at (refused_line number why place) out.new result }
+    ensures { Placed out.old at (refused_line number site.why site.place) out.new result }
 {
-    let refusal = why.number();
+    let refusal = site.why.number();
     let numbered = text::put_number_then(out, at, number, b' ');
     let marked = text::put_byte(out, numbered, b'R');
     let refused = text::put_number_then(out, marked, refusal, b' ');
-    text::put_number_then(out, refused, place, b'\n')
+    text::put_number_then(out, refused, site.place, b'\n')
 }
 
-pub fn put_line(out: &mut [u8], at: usize, number: u32, site: Site) -> usize
+// A site's line: its rating, or why it has none.
+pub fn put_line(out: &mut [u8], at: usize, number: u32, site: Result<Rating, Refused>) -> usize
     requires { Lettered site × (at + line_most ≤ length out.old) }
     ensures { Placed out.old at (line_of number site) out.new result }
 {
     match site {
-        Site::Rated(rating) => put_rated(out, at, number, rating),
-        Site::Refused(why, place) => put_refused(out, at, number, why, place),
+        Ok(rating) => put_rated(out, at, number, rating),
+        Err(refused) => put_refused(out, at, number, refused),
     }
 }
 

@@ -22,7 +22,8 @@ use Rattle.entries.specs.Judging.{size_answer, outside, badly_shared, other_lane
 use Rattle.procedure.specs.Junctions.{K1, side, four}
 use Rattle.lists.specs.Lists.{table}
 use Rattle.study_numbers.specs.Numbers.{bytes_of, packed}
-use Rattle.study_format.specs.Format.{starts_with, judgement, file_of}
+use Rattle.study_format.specs.Fields.{starts_with}
+use Rattle.study_format.specs.Format.{judgement, file_of}
 use Rattle.study_before.specs.Before.{cycle_before, widened_at, widened}
 use Rattle.study.specs.Study.{icut, icus, format_of, block_entries}
 use Rattle.text.specs.Text.{ascii, digits, decimal, number_then}

@@ -1,5 +1,5 @@
 -- "Study file and listing": the text that lists a study file.
-use Rattle.std.specs.Prelude.{ℕ, zero, suc, ◌+◌, List, [], ◌++◌, length, get_or, ltb}
+use Rattle.std.specs.Prelude.{ℕ, zero, suc, ◌+◌, List, [], ◌++◌, length, get_or, ltb, Result, Ok, Err}
 use Rattle.layout.specs.declared.Worksheet.TheVariants.{Junction}
 use Rattle.layout.specs.Sheet.{pick_cell, icu_cell, letter_cell}
 use Rattle.answers.specs.Answers.{refuse_if}
@@ -13,8 +13,7 @@ use Rattle.study_format.specs.Format.{room_place}
 use Rattle.study.specs.Study.{sites_of, site_entries, judgement}
 use Rattle.study_lines.specs.Lines.{line_of, file_line}
 use Rattle.study_lines.specs.declared.Rating.{Rating}
-use Rattle.study_lines.specs.declared.Site.{Site}
-use Rattle.study_lines.specs.declared.Site.TheVariants.{Rated, Refused}
+use Rattle.study_lines.specs.declared.Refused.{Refused}
 
 -- the cells of a sheet that are shown: ICU, letter, and the picks of EB–WB and NB–SB
 abbrev pub rating_of : List ℕ → Rating
@@ -27,11 +26,11 @@ rating_of cells =
     }
 
 -- what is shown of a site whose entries were answered so and whose sheet is this
-abbrev pub shown : Answer → List ℕ → Site
-shown Accepted cells = Rated (rating_of cells)
-shown (No why place) cells = Refused why place
+abbrev pub shown : Answer → List ℕ → Result Rating Refused
+shown Accepted cells = Ok (rating_of cells)
+shown (No why' place') cells = Err record { why = why'; place = place' }
 
-unfoldable pub site_of : List ℕ → Site
+unfoldable pub site_of : List ℕ → Result Rating Refused
 site_of e = shown (judged e) (sheet e)
 
 abbrev pub site_line : ℕ → List ℕ → List ℕ

@@ -1,7 +1,7 @@
 // The listing of a study file: a line for each site, or one line for a bad file.
 #![tactic(auto)]
 
-ghost use Rattle.std.specs.Prelude.{◌≡◌, ◌+◌, ◌≤◌, length};
+ghost use Rattle.std.specs.Prelude.{◌≡◌, ◌≤◌, length};
 ghost use Rattle.text.specs.Text.{Placed};
 ghost use Rattle.study_listing.specs.Listing.{site_of, site_lines, listing, list_answer};
 ghost use Rattle.study_listing.specs.Working.{area_bytes};
@@ -12,7 +12,7 @@ ghost use Rattle.lists.specs.Lists.{over};
 
 use answers::Answer;
 use layout::Worksheet;
-use study_lines::{Rating, Site};
+use study_lines::{Rating, Refused};
 
 // Room for the lines of as many sites as a file that is read holds.
 pub const AREA_BYTES: usize = study_lines::LINE_BYTES * study::MOST_READ;
@@ -23,7 +23,7 @@ const FIRST_PICK_CELL: usize = layout::PAIRS_FROM + layout::PICK;
 const SECOND_PICK_CELL: usize = FIRST_PICK_CELL + layout::PAIR_CELLS;
 
 // What the line of a site shows that the file has.
-fn site_cells(file: &[u8], site: u32) -> Site
+fn site_cells(file: &[u8], site: u32) -> Result<Rating, Refused>
     requires { site_answer file.now site ≡ Accepted }
     ensures { result ≡ site_of (site_entries file.now site) }
 {
@@ -32,13 +32,13 @@ fn site_cells(file: &[u8], site: u32) -> Site
     study::site_entries(file, site, &mut entries);
     let answer = sheet::fill(Worksheet::Junction, &entries, &mut cells);
     match answer {
-        Answer::Accepted => Site::Rated(Rating {
+        Answer::Accepted => Ok(Rating {
             icu: cells[layout::ICU_CELL],
             letter: cells[layout::LETTER_CELL],
             first: cells[FIRST_PICK_CELL],
             second: cells[SECOND_PICK_CELL],
         }),
-        Answer::Refused(why, place) => Site::Refused(why, place),
+        Answer::Refused(why, place) => Err(Refused { why, place }),
     }
 }
 
@@ -47,11 +47,9 @@ fn put_sites(file: &[u8], out: &mut [u8]) -> usize
     ensures { Placed out.old 0 (site_lines file.now (sites_of file.now)) out.new result }
 {
     let sites = study::count(file);
-    let mut at: usize = 0;
-    let mut site: u32 = 0;
-    while site < sites {
+    let mut at = 0;
+    for site in 0..sites {
         at = study_lines::put_line(out, at, site + 1, site_cells(file, site));
-        site += 1;
     }
     at
 }

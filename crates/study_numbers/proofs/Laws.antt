@@ -1,9 +1,8 @@
 -- Laws of numbers as four bytes each, and of runs of them.
-use Prim.Native.Nat.{ℕ, suc, ◌+◌, ◌*◌, ◌≤◌}
+use Prim.Native.Nat.{ℕ, ◌+◌, ◌*◌, ◌≤◌}
 use mathlib.Core.Path.{◌≡◌, refl, sym}
 use mathlib.Core.List.{List, [], ◌∷◌, ◌++◌, append_assoc, append-nil}
-use lib.ListN.{length, set, length-append}
-use lib.Seq.{sets-eq}
+use lib.ListN.{length, length-append}
 use native.Mathlib.Omega.{arith}
 use Rattle.lists.specs.Lists.{over}
 use Rattle.lists.proofs.Laws.{over_nothing, over_next}
@@ -17,16 +16,6 @@ pub length-packed : (numbers : List ℕ) → length (packed numbers) ≡ number_
 unfolding packed
 length-packed [] = refl
 length-packed (number ∷ numbers) = simp (length-append, length-bytes_of, length-packed numbers) (omega arith)
-
--- four stores, one after the other, put four bytes over a list
-pub four_stores : (list : List ℕ) (at a b c d : ℕ) → at + number_bytes ≤ length list
-    → set (set (set (set list at a) (at + 1) b) (at + 2) c) (at + 3) d ≡ over list at (a ∷ b ∷ c ∷ d ∷ [])
-unfolding over
-four_stores list at a b c d h =
-    let e1 : at + 1 ≡ suc at = omega arith in
-    let e2 : at + 2 ≡ suc (suc at) = omega arith in
-    let e3 : at + 3 ≡ suc (suc (suc at)) = omega arith in
-    rw (e1, e2, e3) (sets-eq (a ∷ b ∷ c ∷ d ∷ []) list at h)
 
 pub packed-append : (first second : List ℕ) → packed (first ++ second) ≡ packed first ++ packed second
 unfolding packed

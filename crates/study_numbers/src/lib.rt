@@ -8,21 +8,12 @@ ghost use Rattle.study_numbers.specs.Numbers.{number_bytes, number_at, numbers_i
 // The bytes of a number.
 pub const NUMBER_BYTES: usize = 4;
 
-fn wide(byte: u8) -> u32
-    ensures { (result ≡ byte) × (result < 256) }
-{
-    byte as u32
-}
-
 // The number whose four bytes stand at a place.
 pub fn read(bytes: &[u8], at: usize) -> u32
     requires { at + number_bytes ≤ length bytes.now }
     ensures { result ≡ number_at bytes.now at }
 {
-    wide(bytes[at])
-        + 256 * wide(bytes[at + 1])
-        + 65536 * wide(bytes[at + 2])
-        + 16777216 * wide(bytes[at + 3])
+    u32::from_le_bytes([bytes[at], bytes[at + 1], bytes[at + 2], bytes[at + 3]])
 }
 
 // Writes a number's four bytes at a place; every other byte stays.
@@ -30,10 +21,8 @@ pub fn write(bytes: &mut [u8], at: usize, number: u32)
     requires { at + number_bytes ≤ length bytes.old }
     ensures { bytes.new ≡ over bytes.old at (bytes_of number) }
 {
-    bytes[at] = (number % 256) as u8;
-    bytes[at + 1] = (number / 256 % 256) as u8;
-    bytes[at + 2] = (number / 65536 % 256) as u8;
-    bytes[at + 3] = (number / 16777216 % 256) as u8;
+    let four = number.to_le_bytes();
+    bytes[at..at + NUMBER_BYTES].copy_from_slice(&four);
 }
 
 // Fills the lent numbers from the front of the bytes.
@@ -41,10 +30,8 @@ pub fn read_all(bytes: &[u8], numbers: &mut [u32])
     requires { number_bytes * length numbers.old ≤ length bytes.now }
     ensures { numbers.new ≡ numbers_in bytes.now (length numbers.old) }
 {
-    let mut i: usize = 0;
-    while i < numbers.len() {
-        numbers[i] = read(bytes, NUMBER_BYTES * i);
-        i += 1;
+    for (i, number) in numbers.iter_mut().enumerate() {
+        *number = read(bytes, NUMBER_BYTES * i);
     }
 }
 
@@ -53,9 +40,7 @@ pub fn write_all(numbers: &[u32], bytes: &mut [u8], at: usize)
     requires { at + number_bytes * length numbers.now ≤ length bytes.old }
     ensures { bytes.new ≡ over bytes.old at (packed numbers.now) }
 {
-    let mut i: usize = 0;
-    while i < numbers.len() {
-        write(bytes, at + NUMBER_BYTES * i, numbers[i]);
-        i += 1;
+    for (i, number) in numbers.iter().enumerate() {
+        write(bytes, at + NUMBER_BYTES * i, *number);
     }
 }

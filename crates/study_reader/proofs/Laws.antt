@@ -9,10 +9,9 @@ use Rattle.answers.specs.declared.Answer.{Answer}
 use Rattle.answers.specs.declared.Answer.TheVariants.{Accepted, Refused}
 use Rattle.study_format.specs.declared.Format.{Format}
 use Rattle.study_format.specs.Format.{site_answer, site_block}
-use Rattle.study_format.specs.Working.{Modest}
 use Rattle.study_format.proofs.Laws.{has_site, length-site_block}
 
-module _ (f : Format) (ok : Modest f) (file : List ℕ) (site : ℕ) where
+module _ (f : Format) (file : List ℕ) (site : ℕ) where
   abbrev pub part : List ℕ
   part = left_by (site_answer f file site) (site_block f file site) []
 
@@ -20,7 +19,7 @@ module _ (f : Format) (ok : Modest f) (file : List ℕ) (site : ℕ) where
   part_empty {A = A} new old = go (site_answer f file site) refl
     where
       go : (a : Answer) → site_answer f file site ≡ a → length (left_by a (site_block f file site) []) ≡ 0 → old ≡ left_by a new old
-      go Accepted e h = absurd (omega (arith, length-site_block f file site (has_site f file site e), ok.entries))
+      go Accepted e h = absurd (omega (arith, length-site_block f file site (has_site f file site e), f.some_entries))
       go (Refused why place) e h = refl
 
   pub part_there : (length part ≡ 0 → ⊥) → site_answer f file site ≡ Accepted

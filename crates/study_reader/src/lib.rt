@@ -5,14 +5,12 @@ ghost use Rattle.std.specs.Prelude.{◌≡◌, [], ◌+◌, ◌≤◌, length};
 ghost use Rattle.answers.specs.Answers.{left_by};
 ghost use Rattle.answers.specs.declared.Answer.TheVariants.{Accepted};
 ghost use Rattle.study_format.specs.Format.{sites_of, block_bytes, block_place, count_of, site_answer, site_block, block_answer, block_entries};
-ghost use Rattle.study_format.specs.Working.{Modest};
 
 use answers::{Answer, Refusal};
 use study_format::Format;
 
 // How many sites a well laid out file has; 0 of any other bytes.
 pub fn count(format: Format, file: &[u8]) -> u32
-    requires { Modest format }
     ensures { (result ≡ count_of format file.now) × (result ≤ format.most) }
 {
     let answer = format.check(file);
@@ -24,7 +22,6 @@ pub fn count(format: Format, file: &[u8]) -> u32
 
 // Whether a file has a site, counted from 0. Only a number that passes here is multiplied by a block's bytes.
 pub fn site_answer(format: Format, file: &[u8], site: u32) -> Answer
-    requires { Modest format }
     ensures { result ≡ site_answer format file.now site }
 {
     let answer = format.check(file);
@@ -39,7 +36,7 @@ pub fn site_answer(format: Format, file: &[u8], site: u32) -> Answer
 
 // Where the block of a site stands that the file has.
 fn site_place(format: Format, file: &[u8], site: u32) -> usize
-    requires { Modest format × (site_answer format file.now site ≡ Accepted) }
+    requires { site_answer format file.now site ≡ Accepted }
     ensures { (result ≡ block_place format (sites_of file.now) site)
         × (result + block_bytes format ≤ length file.now) }
 {
@@ -48,7 +45,6 @@ fn site_place(format: Format, file: &[u8], site: u32) -> usize
 
 // The block of a site, a part of the lent file; empty where `site_answer` refuses.
 pub fn site(format: Format, file: &[u8], site: u32) -> &[u8]
-    requires { Modest format }
     ensures { result.now
         ≡ left_by (site_answer format file.now site) (site_block format file.now site) [] }
 {
@@ -63,7 +59,6 @@ pub fn site(format: Format, file: &[u8], site: u32) -> &[u8]
 
 // The entries of a block, into lent numbers.
 pub fn entries_of(format: Format, block: &[u8], entries: &mut [u32]) -> Answer
-    requires { Modest format }
     ensures value { result ≡ block_answer format block.now (length entries.old) }
     ensures entries_after { entries.new
         ≡ left_by (block_answer format block.now (length entries.old))

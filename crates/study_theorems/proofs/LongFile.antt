@@ -14,9 +14,9 @@ use Rattle.answers.specs.Answers.{◌then◌}
 use Rattle.answers.specs.declared.Answer.{Answer}
 use Rattle.answers.proofs.Laws.{same_in_turn}
 use Rattle.study_format.specs.declared.Format.{Format}
-use Rattle.study_format.specs.Format.{count_place, sites_of, offset_place, starts_with, field, block_place, file_bytes}
+use Rattle.study_format.specs.Fields.{starts_with}
+use Rattle.study_format.specs.Format.{count_place, sites_of, offset_place, field, block_place, file_bytes}
 use Rattle.study_format.specs.Format.{opening_field, count_field, offset_field, offset_fields, ending, judgement}
-use Rattle.study_format.specs.Working.{Modest}
 use Rattle.study_format.proofs.Laws.{within_largest}
 
 -- how many bytes decide any file
@@ -30,7 +30,7 @@ starts_front file (byte ∷ bytes) zero h = absurd (omega arith)
 starts_front [] (byte ∷ bytes) (suc m) h = refl
 starts_front (first ∷ file) (byte ∷ bytes) (suc m) h = rw (starts_front file bytes m (omega arith))
 
-module _ (f : Format) (ok : Modest f) (file : List ℕ) (m : ℕ) (enough : decisive f ≤ m) (long : m ≤ length file) where
+module _ (f : Format) (file : List ℕ) (m : ℕ) (enough : decisive f ≤ m) (long : m ≤ length file) where
   front : List ℕ
   front = take m file
 
@@ -84,7 +84,7 @@ module _ (f : Format) (ok : Modest f) (file : List ℕ) (m : ℕ) (enough : deci
       let rest : ℕ → Answer = λ sites. offset_fields f front sites then ending f front sites in
       let first : opening_field f front ≡ opening_field f file =
       field-front 0 (not (starts_with file f.opening)) (not (starts_with front f.opening)) (omega arith)
-      (ap not (starts_front file f.opening m (omega (arith, ok.opens)))) in
+      (ap not (starts_front file f.opening m (omega (arith, f.opening_long)))) in
       let second : field front count_place (many k) ≡ count_field f file = field-front count_place (many k) (many k) (omega arith) refl in
       ap (λ sites. opening_field f front then field front count_place (many sites) then rest sites) (number_front count_place (omega arith))
       ∙ ap (λ a. a then field front count_place (many k) then rest k) first

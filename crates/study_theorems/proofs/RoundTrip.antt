@@ -15,9 +15,10 @@ use Rattle.study_numbers.proofs.Laws.{length-packed}
 use Rattle.study_numbers.proofs.RoundTrip.{number_past, number_take, number_drop, number_packed, packed_numbers}
 use Rattle.answers.specs.declared.Answer.TheVariants.{Accepted}
 use Rattle.study_format.specs.declared.Format.{Format}
-use Rattle.study_format.specs.Format.{count_place, sites_of, offset_place, starts_with, block_bytes, block_place, file_bytes}
+use Rattle.study_format.specs.Fields.{starts_with}
+use Rattle.study_format.specs.Format.{count_place, sites_of, offset_place, block_bytes, block_place, file_bytes}
 use Rattle.study_format.specs.Format.{judgement, count_of, site_answer, site_block, site_entries, sites_in, write_answer, offsets, file_of}
-use Rattle.study_format.specs.Working.{Modest, entries_up_to}
+use Rattle.study_format.specs.Working.{entries_up_to}
 use Rattle.study_format.proofs.Laws.{WellLaidOut, take_of_starts_with, accepted, laid_out, places_fit}
 use Rattle.study_writer.proofs.Laws.{whole_sites, writable}
 
@@ -66,9 +67,9 @@ module _ (f : Format) where
 
 -- written and read back
 
-module _ (f : Format) (ok : Modest f) where
+module _ (f : Format) where
   pub sites_in_lem : (entries : List ℕ) (k : ℕ) → length entries ≡ f.entries * k → sites_in f entries ≡ k
-  sites_in_lem entries k sites = ap (λ n. n / f.entries) sites ∙ mul-div_cancel_left k ok.entries
+  sites_in_lem entries k sites = ap (λ n. n / f.entries) sites ∙ mul-div_cancel_left k f.some_entries
 
   -- the entries of k sites, each a u32
   module _ (entries : List ℕ) (k : ℕ) (sites : length entries ≡ f.entries * k) (few : k ≤ f.most) (fits : AllBelow number_limit entries) where
@@ -79,17 +80,17 @@ module _ (f : Format) (ok : Modest f) where
         → number_at file (number_bytes + number_bytes * i) ≡ get_or (fields f k entries) i 0
     unfolding file
     number_at_field i h small =
-        number_past f.opening (packed (fields f k entries)) number_bytes (number_bytes * i) ok.opens
+        number_past f.opening (packed (fields f k entries)) number_bytes (number_bytes * i) f.opening_long
         ∙ number_packed (fields f k entries) i (omega (arith, length_fields f entries k)) small
 
     count_back : sites_of file ≡ k
-    count_back = number_at_field 0 (omega arith) (omega (arith, places_fit f k 0 ok few (omega arith)))
+    count_back = number_at_field 0 (omega arith) (omega (arith, places_fit f k 0 few (omega arith)))
 
     offset_back : (j : ℕ) → j < k → number_at file (offset_place j) ≡ block_place f k j
     offset_back j h =
         let e : offset_place j ≡ number_bytes + number_bytes * (1 + j) = omega arith in
         let is = field_offset f entries k j h in
-        ap (number_at file) e ∙ number_at_field (1 + j) (omega arith) (rw is (places_fit f k j ok few (omega arith))) ∙ is
+        ap (number_at file) e ∙ number_at_field (1 + j) (omega arith) (rw is (places_fit f k j few (omega arith))) ∙ is
 
     entry_back : (i : ℕ) → i < f.entries * k → number_at file (block_place f k 0 + number_bytes * i) ≡ get_or entries i 0
     entry_back i h =
@@ -101,7 +102,7 @@ module _ (f : Format) (ok : Modest f) where
     unfolding file
     length_file =
         length-append f.opening (packed (fields f k entries))
-        ∙ omega (arith, ok.opens, length-packed (fields f k entries), length_fields f entries k)
+        ∙ omega (arith, f.opening_long, length-packed (fields f k entries), length_fields f entries k)
 
     file_laid : WellLaidOut f file
     unfolding file
@@ -216,10 +217,10 @@ module _ (f : Format) (bytes : List ℕ) (laid : WellLaidOut f bytes) where
       )
 
 -- a good file of bytes, read and written, is the same bytes
-pub read_written : (f : Format) → Modest f → (bytes : List ℕ) → AllBelow byte_limit bytes → judgement f bytes ≡ Accepted
+pub read_written : (f : Format) → (bytes : List ℕ) → AllBelow byte_limit bytes → judgement f bytes ≡ Accepted
     → file_of f (entries_up_to f bytes (count_of f bytes)) ≡ bytes
 unfolding file_of
-read_written f ok bytes small e =
+read_written f bytes small e =
     let laid = accepted f bytes e in
     let k = sites_of bytes in
     let n = 1 + k + f.entries * k in
@@ -228,11 +229,11 @@ read_written f ok bytes small e =
     let long : length rest ≡ number_bytes * n = length-drop count_place bytes ∙ omega (arith, laid.size) in
     let low : AllBelow byte_limit rest = λ i. rw (get_or-drop count_place bytes i 0) (small (count_place + i)) in
     let back = packed_numbers rest n low (omega (arith, long)) ∙ take_all (number_bytes * n) rest (omega (arith, long)) in
-    let opened : take count_place bytes ≡ f.opening = rw ok.opens at (take_of_starts_with bytes f.opening laid.opened) in
-    let k_sites = sites_in_lem f ok (entries_up_to f bytes k) k l in
+    let opened : take count_place bytes ≡ f.opening = rw f.opening_long at (take_of_starts_with bytes f.opening laid.opened) in
+    let k_sites = sites_in_lem f (entries_up_to f bytes k) k l in
     simp e (rw (k_sites, fields_are f bytes laid, back) (ap (λ front. front ++ rest) (sym opened) ∙ take-append-drop count_place bytes))
 
-module _ (f : Format) (ok : Modest f) (bytes : List ℕ) (good : judgement f bytes ≡ Accepted) where
+module _ (f : Format) (bytes : List ℕ) (good : judgement f bytes ≡ Accepted) where
   -- the sites' entries of a good file are accepted for writing wherever there is room for it
   pub accepted_again : (room : ℕ) → length bytes ≤ room → write_answer f (entries_up_to f bytes (count_of f bytes)) room ≡ Accepted
   accepted_again room fits =
@@ -241,6 +242,6 @@ module _ (f : Format) (ok : Modest f) (bytes : List ℕ) (good : judgement f byt
       let e = entries_up_to f bytes k in
       let l : length e ≡ f.entries * k = ap length (entries_are f bytes laid k) ∙ length-table _ (f.entries * k) in
       let whole : length e % f.entries ≡ 0 = ap (λ n. n % f.entries) l ∙ mul-mod_right f.entries k in
-      let sites = sites_in_lem f ok e k l in
+      let sites = sites_in_lem f e k l in
       rw good
       (simp (eq-eqb (length e % f.entries) 0 whole, sites, le-ltb f.most k laid.few, le-ltb room (file_bytes f k) (omega (arith, laid.size))))

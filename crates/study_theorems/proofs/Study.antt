@@ -18,7 +18,7 @@ use Rattle.study_format.proofs.Laws.{long_enough, other_opening}
 use Rattle.layout.specs.Entries.{entry_count}
 use Rattle.study.specs.Study.{site_limit, icut, icus, format_of, file_bytes, sites_of, judgement, count_of, site_answer, site_entries_answer, site_entries}
 use Rattle.study.specs.Study.{entries_up_to, sites_in, write_answer, file_of, converted}
-use Rattle.study.proofs.Laws.{modest_today, modest, of_either, good_today, entries_today}
+use Rattle.study.proofs.Laws.{of_either, good_today, entries_today}
 use Rattle.study_theorems.proofs.Sites.{length_sites, site_part, sites_below}
 use Rattle.study_theorems.proofs.RoundTrip as round
 use Rattle.study_theorems.proofs.LongFile as long
@@ -44,7 +44,7 @@ read_today entries bytes back =
 
 pub written_read : (entries area : List ℕ) → AllBelow number_limit entries → write_answer entries (length area) ≡ Accepted
     → ReadBack entries (take (file_bytes (sites_in entries)) (over area 0 (file_of entries)))
-written_read entries area small e = read_today entries _ (round.written_read icut modest_today entries area small e)
+written_read entries area small e = read_today entries _ (round.written_read icut entries area small e)
 
 -- each site of a good file, of today or of before, is given to whoever has room for its entries
 pub has_site : (bytes : List ℕ) (site : ℕ) → judgement bytes ≡ Accepted → site < sites_of bytes → site_answer bytes site ≡ Accepted
@@ -73,10 +73,10 @@ module _ (bytes : List ℕ) (good : judgement bytes ≡ Accepted) (is : format_o
 
   -- .. so read and written it is the same bytes, wherever there is room for them
   pub read_written : AllBelow byte_limit bytes → file_of (entries_up_to bytes (count_of bytes)) ≡ bytes
-  read_written small = rw all_are (round.read_written icut modest_today bytes small good_then)
+  read_written small = rw all_are (round.read_written icut bytes small good_then)
 
   pub accepted_again : (room : ℕ) → length bytes ≤ room → write_answer (entries_up_to bytes (count_of bytes)) room ≡ Accepted
-  accepted_again room fits = rw all_are (round.accepted_again icut modest_today bytes good_then room fits)
+  accepted_again room fits = rw all_are (round.accepted_again icut bytes good_then room fits)
 
 -- a good file that has no more sites than one of today holds is written as one wherever there is room, and the sites, each with its
 -- entries, are the same
@@ -88,7 +88,7 @@ module _ (file : List ℕ) (good : judgement file ≡ Accepted) (few : count_of 
   long_all = length_sites file k
 
   sites : sites_in (entries_up_to file k) ≡ k
-  sites = round.sites_in_lem icut modest_today (entries_up_to file k) k long_all
+  sites = round.sites_in_lem icut (entries_up_to file k) k long_all
 
   pub convertible : (room : ℕ) → file_bytes k ≤ room → write_answer (entries_up_to file k) room ≡ Accepted
   convertible room fits =
@@ -98,7 +98,7 @@ module _ (file : List ℕ) (good : judgement file ≡ Accepted) (few : count_of 
   pub converted_back : AllBelow byte_limit file → ReadBack (entries_up_to file k) (converted file)
   converted_back small =
       read_today (entries_up_to file k) (converted file)
-      (round.file_back icut modest_today (entries_up_to file k) k long_all few (sites_below file k small))
+      (round.file_back icut (entries_up_to file k) k long_all few (sites_below file k small))
 
   pub same_sites : AllBelow byte_limit file → (count_of (converted file) ≡ k) × ((j : ℕ) → j < k → site_entries (converted file) j ≡ site_entries file j)
   same_sites small =
@@ -123,7 +123,7 @@ same_format file m enough = rw (long.starts_front file icus.opening m (omega ari
 pub front_decides : (file : List ℕ) (m : ℕ) → decisive ≤ m → m ≤ length file → judgement (take m file) ≡ judgement file
 front_decides file m enough within =
     let least = of_either (λ f. long.decisive f ≤ decisive) (lit≤ tt) (lit≤ tt) file in
-    rw (same_format file m enough) (long.front_decides (format_of file) (modest file) file m (omega arith) within)
+    rw (same_format file m enough) (long.front_decides (format_of file) file m (omega arith) within)
 
 pub first_bytes_decide : (file : List ℕ) → decisive ≤ length file → judgement (take decisive file) ≡ judgement file
 first_bytes_decide file enough = front_decides file decisive (omega arith) enough

@@ -18,7 +18,6 @@ use Rattle.lists.proofs.Laws.{length-table, over_then}
 use Rattle.study_numbers.proofs.Laws.{length-bytes_of, length-packed, packed-append, packed_one}
 use Rattle.study_format.specs.declared.Format.{Format}
 use Rattle.study_format.specs.Format.{count_place, room_place, offsets_place, block_place, file_bytes, offsets, sites_in, write_answer, file_of}
-use Rattle.study_format.specs.Working.{Modest}
 use Rattle.study_writer.specs.Working.{Writable}
 
 module _ (f : Format) where
@@ -50,7 +49,7 @@ module _ (f : Format) where
         fits = ltb-false _ _ (not_refused short File room_place second.1);
       }
 
-  module _ (entries out : List ℕ) (ok : Modest f) (sized : length entries % f.entries ≡ 0) (room : file_bytes f (sites_in f entries) ≤ length out) where
+  module _ (entries out : List ℕ) (sized : length entries % f.entries ≡ 0) (room : file_bytes f (sites_in f entries) ≤ length out) where
     pub written : {opened counted placed done : List ℕ}
         → opened ≡ over out 0 f.opening
         → counted ≡ over opened count_place (bytes_of (sites_in f entries))
@@ -61,9 +60,9 @@ module _ (f : Format) where
         let k = sites_in f entries in
         let head = f.opening ++ bytes_of k in
         let front = head ++ packed (offsets f k) in
-        let lh : length head ≡ offsets_place = length-append f.opening (bytes_of k) ∙ simp (ok.opens, length-bytes_of) in
+        let lh : length head ≡ offsets_place = length-append f.opening (bytes_of k) ∙ simp (f.opening_long, length-bytes_of) in
         let lf : length front ≡ block_place f k 0 = length-append head (packed (offsets f k)) ∙ simp (lh, length-offsets) (omega arith) in
         let l4 = whole_sites entries sized in
-        let s2 = over_then out 0 f.opening (bytes_of k) e1 e2 (omega (arith, ok.opens)) (omega (arith, length-bytes_of k)) in
+        let s2 = over_then out 0 f.opening (bytes_of k) e1 e2 (omega (arith, f.opening_long)) (omega (arith, length-bytes_of k)) in
         let s3 = over_then out 0 head (packed (offsets f k)) s2 e3 (omega arith) (omega (arith, length-offsets k)) in
         rw (file_parts entries) (over_then out 0 front (packed entries) s3 e4 (omega arith) (omega (arith, length-packed entries)))

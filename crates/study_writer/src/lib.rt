@@ -7,7 +7,6 @@ ghost use Rattle.study_numbers.specs.Numbers.{packed};
 ghost use Rattle.answers.specs.declared.Refusal.TheVariants.{Size, File};
 ghost use Rattle.answers.specs.Answers.{refuse_if, left_by};
 ghost use Rattle.study_format.specs.Format.{room_place, offsets_place, offset_place, file_bytes, offsets, write_answer, file_of};
-ghost use Rattle.study_format.specs.Working.{Modest};
 ghost use Rattle.study_writer.specs.Working.{Writable};
 
 use answers::{Answer, Refusal};
@@ -15,23 +14,20 @@ use study_format::Format;
 use study_numbers::NUMBER_BYTES;
 
 fn put_offsets(format: Format, out: &mut [u8], sites: usize)
-    requires { Modest format × (sites ≤ format.most) × (offset_place sites ≤ length out.old) }
+    requires { (sites ≤ format.most) × (offset_place sites ≤ length out.old) }
     ensures { out.new ≡ over out.old offsets_place (packed (offsets format sites)) }
 {
-    let mut placed: usize = 0;
-    while placed < sites {
+    for placed in 0..sites {
         study_numbers::write(
             out,
             study_format::OFFSETS_PLACE + NUMBER_BYTES * placed,
             format.block_place(sites, placed) as u32,
         );
-        placed += 1;
     }
 }
 
 // Whole sites alone are written.
 fn check_whole(format: Format, entries: &[u32]) -> Answer
-    requires { Modest format }
     ensures { result ≡ refuse_if (not (eqb (length entries.now % format.entries) 0)) Size 0 }
 {
     if entries.len() % format.entries != 0 {
@@ -51,7 +47,7 @@ fn check_count(format: Format, sites: usize) -> Answer
 }
 
 fn check_room(format: Format, sites: usize, room: usize) -> Answer
-    requires { Modest format × (sites ≤ format.most) }
+    requires { sites ≤ format.most }
     ensures { result ≡ refuse_if (ltb room (file_bytes format sites)) File room_place }
 {
     if room < format.file_bytes(sites) {
@@ -62,7 +58,6 @@ fn check_room(format: Format, sites: usize, room: usize) -> Answer
 
 // Whether the entries make a file, and there is room for it.
 fn check(format: Format, entries: &[u32], room: usize) -> Answer
-    requires { Modest format }
     ensures { result ≡ write_answer format entries.now room }
 {
     let whole = check_whole(format, entries);
@@ -79,7 +74,7 @@ fn check(format: Format, entries: &[u32], room: usize) -> Answer
 
 // The file of entries that were checked, at the front.
 fn put_file(format: Format, entries: &[u32], out: &mut [u8])
-    requires { Modest format × Writable format entries.now (length out.old) }
+    requires { Writable format entries.now (length out.old) }
     ensures { out.new ≡ over out.old 0 (file_of format entries.now) }
 {
     let sites = entries.len() / format.entries;
@@ -92,7 +87,6 @@ fn put_file(format: Format, entries: &[u32], out: &mut [u8])
 
 // Writes the study file of whole sites' entries to the front of the lent bytes; those past it stay.
 pub fn write(format: Format, entries: &[u32], out: &mut [u8]) -> Answer
-    requires { Modest format }
     ensures value { result ≡ write_answer format entries.now (length out.old) }
     ensures out_after { out.new
         ≡ left_by (write_answer format entries.now (length out.old))

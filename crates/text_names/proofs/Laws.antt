@@ -1,28 +1,25 @@
 -- Laws of the words in the table, of a word that is compared with a row, of the search for its row, and of the classes of titles.
 use Prim.Native.Nat.{ℕ, zero, suc, ◌+◌, ◌≤◌, ◌<◌}
-use mathlib.Core.Path.{◌≡◌, refl, sym, ◌∙◌}
+use mathlib.Core.Path.{◌≡◌, refl}
+use mathlib.Core.Logic.{⊎_elim}
 use mathlib.Core.Bool.{Bool, true, false, cond, not, ◌&&◌, ◌||◌}
 use mathlib.Core.List.{List, [], ◌∷◌, ◌++◌, append-nil}
-use lib.ListN.{length, get_or, length-append}
+use lib.ListN.{length, length-append}
 use lib.Dec.{eqb, ltb, leb}
-use borrow.Author.Tests.{eq-eqb, ne_eqb, eqb-true, lt-ltb, ltb-true, leb-true}
+use borrow.Author.Tests.{eq-eqb, ne_eqb, eqb-true, ltb-true, leb-true}
+use native.Mathlib.Nat.{eq-or-lt_of_le}
 use native.Mathlib.Numerals.{add-one}
 use native.Mathlib.Omega.{arith}
+use Rattle.std.specs.Prelude.{Option, Some, None, MatchOption, IfSome}
 use Rattle.text.specs.Text.{Placed}
 use Rattle.lists.proofs.Laws.{over_none}
 use Rattle.text.proofs.Laws.{placed_next}
 use Rattle.lists.proofs.Tests.{both_true, holds_below, at_each}
 use Rattle.layout.specs.Entries.{entry_count}
-use Rattle.text_names.specs.Names.{space, word_byte, word_in, word_of, word_width, word_count, padded, agrees, is_word, found_in}
+use Rattle.text_names.specs.Names.{space, word_byte, word_in, word_of, word_width, word_count, padded, agrees, is_word, found_in, row_of}
 use Rattle.text_names.specs.Names.{title_count, kind_count, class_of, class_at, has_kind, entry_in, entry_under, title_of, kind_of}
 use Rattle.text_names.specs.Working.{OfTitle}
 use Rattle.text_names.specs.declared.Class.{Class}
-
--- within a list it does not matter what stands past its end
-pub get_d_within : (list : List ℕ) (i d e : ℕ) → i < length list → get_or list i d ≡ get_or list i e
-get_d_within [] i d e h = absurd (omega arith)
-get_d_within (x ∷ list) zero d e h = refl
-get_d_within (x ∷ list) (suc i) d e h = get_d_within list i d e (omega arith)
 
 -- the words of the table
 
@@ -57,17 +54,18 @@ module _ (row : ℕ) where
 -- a word and a row, byte by byte
 
 module _ (word : List ℕ) (row n one two : ℕ) (p : one ≡ padded word n) (q : two ≡ word_byte row n) where
-  pub agrees_on : {same : Bool} → same ≡ agrees word row n → one ≡ two → same ≡ agrees word row (n + 1)
+  pub agrees_on : true ≡ agrees word row n → one ≡ two → true ≡ agrees word row (n + 1)
   unfolding agrees
-  agrees_on so e = so ∙ rw (add-one n, ← p, ← q, eq-eqb one two e) (sym (kept (agrees word row n)))
-    where
-      kept : (b : Bool) → cond b true false ≡ b
-      kept true = refl
-      kept false = refl
+  agrees_on so e = rw (add-one n, ← so, ← p, ← q, eq-eqb one two e)
 
-  pub agrees_not : (one ≡ two → ⊥) → false ≡ agrees word row (n + 1)
+  -- with one byte that differs the word is not the row's, whatever follows
+  pub differs : (one ≡ two → ⊥) → (m : ℕ) → n < m → false ≡ agrees word row m
   unfolding agrees
-  agrees_not e = rw (add-one n, ← p, ← q, ne_eqb one two e) (none (agrees word row n))
+  differs e zero h = absurd (omega arith)
+  differs e (suc m) h =
+      ⊎_elim (λ here. rw (← here, ← p, ← q, ne_eqb one two e) (none (agrees word row n)))
+      (λ later. rw (← differs e m later))
+      (eq-or-lt_of_le {n = n} {m = m} (omega arith))
     where
       none : (b : Bool) → false ≡ cond b false false
       none true = refl
@@ -75,18 +73,29 @@ module _ (word : List ℕ) (row n one two : ℕ) (p : one ≡ padded word n) (q 
 
 -- the search for a word's row
 
-module _ (word : List ℕ) (n found : ℕ) (so : found ≡ found_in word n) where
-  pub found_before : found ≤ word_count → (found ≡ word_count → ⊥) → found ≡ found_in word (n + 1)
-  unfolding found_in
-  found_before most e = rw (add-one n, ← so, lt-ltb found word_count (omega (arith, e)))
+module _ (word : List ℕ) where
+  abbrev NoneBelow : ℕ → Type 0
+  NoneBelow n = (k : ℕ) → 0 ≤ k → k < n → false ≡ is_word word k
 
-  pub found_here : found ≡ word_count → is_word word n ≡ true → n ≡ found_in word (n + 1)
+  not_found : (n : ℕ) → NoneBelow n → None ≡ found_in word n
   unfolding found_in
-  found_here e is = rw (add-one n, ← so, e, is)
+  not_found zero none = refl
+  not_found (suc n) none = rw (← not_found n (λ k l h. none k l (omega arith)), ← none n (omega arith) (omega arith))
 
-  pub found_not : found ≡ word_count → is_word word n ≡ false → found ≡ found_in word (n + 1)
+  found_first : (i n : ℕ) → i < n → true ≡ is_word word i → NoneBelow i → Some i ≡ found_in word n
   unfolding found_in
-  found_not e is = rw (add-one n, ← so, e, is)
+  found_first i zero h is none = absurd (omega arith)
+  found_first i (suc n) h is none =
+      ⊎_elim (λ here. rw (← here, ← not_found i none, ← is)) (λ later. rw (← found_first i n later is none))
+      (eq-or-lt_of_le {n = i} {m = n} (omega arith))
+
+  -- the first row for which the test holds, if there is one
+  pub found_by : (r : Option ℕ)
+      → MatchOption r ((k : ℕ) → 0 ≤ k → k < word_count → false ≡ is_word word k)
+      (λ i. (0 ≤ i) × (i < word_count) × (true ≡ is_word word i) × ((k : ℕ) → 0 ≤ k → k < i → false ≡ is_word word k))
+      → (r ≡ row_of word) × IfSome r (λ row. row < word_count)
+  found_by None none = (not_found word_count none, tt)
+  found_by (Some i) first = (found_first i word_count first.1 first.2 first.3, first.1)
 
 -- the classes, asked of every title, kind and entry by one computed test each
 

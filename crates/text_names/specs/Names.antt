@@ -1,5 +1,7 @@
 -- The words of a junction's text: the titles, which name a movement, an approach or the junction, and the kinds of their entries.
 use Rattle.std.specs.Prelude.{ℕ, zero, suc, ◌+◌, ◌-◌, ◌*◌, ◌/◌, ◌%◌, Bool, true, false, cond, ◌&&◌, List, [], ◌∷◌, ◌++◌, length, get_or, eqb, ltb, leb}
+use Rattle.std.specs.Prelude.{Option, Some, None, option_and_then}
+use Rattle.std.specs.Option.{option_or}
 use Prim.Native.String.{String}
 use Rattle.text.specs.Text.{joined}
 use Rattle.layout.specs.Entries.{approach_count, movement_count, movement_entries, approaches_from, approach_entries, cycle_entry, entry_count}
@@ -93,12 +95,12 @@ agrees word row (suc n) = cond (agrees word row n) (eqb (padded word n) (word_by
 unfoldable pub is_word : List ℕ → ℕ → Bool
 is_word word row = cond (leb (length word) word_width) (agrees word row word_width) false
 
--- the first of the first n rows that a word is; word_count if it is none of them
-unfoldable pub found_in : List ℕ → ℕ → ℕ
-found_in word zero = word_count
-found_in word (suc n) = cond (ltb (found_in word n) word_count) (found_in word n) (cond (is_word word n) n word_count)
+-- the first of the first n rows that a word is, if it is one of them
+unfoldable pub found_in : List ℕ → ℕ → Option ℕ
+found_in word zero = None
+found_in word (suc n) = option_or (found_in word n) (cond (is_word word n) (Some n) None)
 
-abbrev pub row_of : List ℕ → ℕ
+abbrev pub row_of : List ℕ → Option ℕ
 row_of word = found_in word word_count
 
 -- the classes of titles, a row for each: its first title, its first entry, how many entries each of its titles has, its first kind
@@ -152,13 +154,13 @@ is_first entry = eqb (number_under (class_at entry) entry) 0
 abbrev pub is_last : ℕ → Bool
 is_last entry = eqb (number_under (class_at entry) entry + 1) (class_at entry).width
 
--- the entry that two words name; entry_count if they name none
-unfoldable pub entry_for : ℕ → ℕ → ℕ
+-- the entry of a title and of the kind in a row of the table, if there is one
+unfoldable pub entry_for : ℕ → ℕ → Option ℕ
 entry_for title row =
-    cond (leb title_count title) entry_count
-    (cond (ltb row title_count) entry_count
-    (cond (leb word_count row) entry_count
-    (cond (has_kind title (row - title_count)) (entry_in title (row - title_count)) entry_count)))
+    cond (leb title_count title) None
+    (cond (ltb row title_count) None
+    (cond (has_kind title (row - title_count)) (Some (entry_in title (row - title_count))) None))
 
-abbrev pub entry_named : List ℕ → List ℕ → ℕ
-entry_named title kind = entry_for (row_of title) (row_of kind)
+-- the entry that two words name, if they name one
+unfoldable pub entry_named : List ℕ → List ℕ → Option ℕ
+entry_named title kind = option_and_then (λ named. option_and_then (entry_for named) (row_of kind)) (row_of title)

@@ -1,7 +1,7 @@
 // The words of a junction's text, in one table: the titles, then the kinds of the entries that stand under them.
 #![tactic(auto)]
 
-ghost use Rattle.std.specs.Prelude.{◌≡◌, true, ◌+◌, ◌*◌, ◌≤◌, ◌<◌, length};
+ghost use Rattle.std.specs.Prelude.{◌≡◌, true, ◌+◌, ◌*◌, ◌≤◌, ◌<◌, length, IfSome};
 ghost use Rattle.text.specs.Text.{Placed};
 ghost use Rattle.layout.specs.Entries.{entry_count};
 ghost use Rattle.text_names.specs.Names.{title_count, kind_count, word_count, word_width, word_byte, word_of, padded, is_word, row_of};
@@ -19,8 +19,6 @@ const KINDS: u32 = (layout::MOVEMENT_ENTRIES + layout::APPROACH_ENTRIES + JUNCTI
 pub const WORDS: u32 = TITLES + KINDS;
 
 pub const WIDTH: usize = 16;
-
-pub const ENTRIES: u32 = layout::ENTRIES as u32;
 
 const TABLE: [u8; WIDTH * WORDS as usize] = *b"EBL             \
     EBT             \
@@ -62,10 +60,7 @@ pub fn word_byte(row: u32, i: usize) -> u8
 fn padded(word: &[u8], i: usize) -> u8
     ensures { result ≡ padded word.now i }
 {
-    if i < word.len() {
-        return word[i];
-    }
-    b' '
+    word.get(i).copied().unwrap_or(b' ')
 }
 
 fn is_word(word: &[u8], row: u32) -> bool
@@ -75,15 +70,12 @@ fn is_word(word: &[u8], row: u32) -> bool
     if WIDTH < word.len() {
         return false;
     }
-    let mut is_same = true;
-    let mut i: usize = 0;
-    while i < WIDTH {
+    for i in 0..WIDTH {
         if padded(word, i) != word_byte(row, i) {
-            is_same = false;
+            return false;
         }
-        i += 1;
     }
-    is_same
+    true
 }
 
 // Puts the word of a row at a place, without the blanks that fill its row.
@@ -92,32 +84,21 @@ pub fn put_word(out: &mut [u8], at: usize, row: u32) -> usize
     ensures { Placed out.old at (word_of row) out.new result }
 {
     let mut end = at;
-    let mut i: usize = 0;
-    while i < WIDTH {
+    for i in 0..WIDTH {
         let byte = word_byte(row, i);
         if byte != b' ' {
             end = text::put_byte(out, end, byte);
         }
-        i += 1;
     }
     end
 }
 
-// The row of a word; WORDS if the table does not have it.
-pub fn row_of(word: &[u8]) -> u32
-    ensures { (result ≡ row_of word.now) × (result ≤ word_count) }
+// The row of a word, if the table has it.
+pub fn row_of(word: &[u8]) -> Option<u32>
+    ensures value { result ≡ row_of word.now }
+    ensures bound { IfSome result (λ row. row < word_count) }
 {
-    let mut found = WORDS;
-    let mut row: u32 = 0;
-    while row < WORDS {
-        if found == WORDS {
-            if is_word(word, row) {
-                found = row;
-            }
-        }
-        row += 1;
-    }
-    found
+    (0..WORDS).find(|row| is_word(word, *row))
 }
 
 // A class of titles: its first title, its first entry, how many entries each of its titles has, its first kind.
@@ -235,28 +216,28 @@ pub fn is_last(entry: u32) -> bool
     class.number(entry) + 1 == class.width
 }
 
-fn entry_for(title: u32, row: u32) -> u32
-    ensures { (result ≡ entry_for title row) × (result ≤ entry_count) }
+// The entry of a title and of the kind in a row of the table, if there is one.
+fn entry_for(title: u32, row: u32) -> Option<u32>
+    requires { row < word_count }
+    ensures value { result ≡ entry_for title row }
+    ensures bound { IfSome result (λ entry. entry < entry_count) }
 {
     if TITLES <= title {
-        return ENTRIES;
+        return None;
     }
     if row < TITLES {
-        return ENTRIES;
+        return None;
     }
-    if WORDS <= row {
-        return ENTRIES;
+    if !has_kind(title, row - TITLES) {
+        return None;
     }
-    if has_kind(title, row - TITLES) {
-        return entry_in(title, row - TITLES);
-    }
-    ENTRIES
+    Some(entry_in(title, row - TITLES))
 }
 
-// The entry that two words name, as `EBL` and `lanes`; ENTRIES if they name none.
-pub fn entry_named(title: &[u8], kind: &[u8]) -> u32
-    ensures { (result ≡ entry_named title.now kind.now) × (result ≤ entry_count) }
+// The entry that two words name, as `EBL` and `lanes`, if they name one.
+pub fn entry_named(title: &[u8], kind: &[u8]) -> Option<u32>
+    ensures value { result ≡ entry_named title.now kind.now }
+    ensures bound { IfSome result (λ entry. entry < entry_count) }
 {
-    let named = row_of(title);
-    entry_for(named, row_of(kind))
+    entry_for(row_of(title)?, row_of(kind)?)
 }

@@ -9,7 +9,8 @@ use Rattle.layout.specs.Entries.{lost_no, factor_no, button_no, cycle_entry, app
 use Rattle.kinds.specs.Kinds.{kind_at}
 use Rattle.text_names.specs.Names.{word_table, word_in, class_at}
 use Rattle.text_values.specs.declared.Trouble.TheVariants.{Unknown, NotNumber}
-use Rattle.text_reader.specs.declared.Reading.TheVariants.{Misread, Refused}
+use Rattle.std.specs.Prelude.{Err}
+use Rattle.text_reader.specs.declared.Misreading.TheVariants.{Misread, Refused}
 use Rattle.lists.specs.Lists.{table}
 use Rattle.text.specs.Text.{ascii, joined, digits, decimal, first_in}
 use Rattle.text_quotes.specs.Quotes.{shown, rest_mark, quoted}
@@ -37,11 +38,11 @@ no_lane : answer_text (No NoLane (through NB)) ≡ ascii "R5: NBT: vehicles, and
 unfolding ascii joined digits decimal numbered word_table word_in name_in why_text refusal_text
 no_lane = refl
 
-misread : reading_text (ascii "EBL lanes 2\nvolume x") (Misread NotNumber 19) ≡ ascii "line 2, column 8: a whole number without a unit is expected here\n"
+misread : reading_text (ascii "EBL lanes 2\nvolume x") (Err (Misread (record { why = NotNumber; place = 19 }))) ≡ ascii "line 2, column 8: a whole number without a unit is expected here\n"
 unfolding ascii digits decimal numbered line_at column_at place_text
 misread = refl
 
-unknown : reading_text (ascii "EBL lane\u{1} 1") (Misread Unknown 4) ≡ ascii "line 1, column 5: \"lane?\": no movement, approach or entry has this name\n"
+unknown : reading_text (ascii "EBL lane\u{1} 1") (Err (Misread (record { why = Unknown; place = 4 }))) ≡ ascii "line 1, column 5: \"lane?\": no movement, approach or entry has this name\n"
 unfolding ascii table first_in shown rest_mark quoted digits decimal numbered line_at column_at place_text
 unknown = refl
 
@@ -49,6 +50,6 @@ cycle : answer_text (No Range cycle_entry) ≡ ascii "R3: junction cycle is outs
 unfolding ascii joined digits decimal numbered value_text kind_at class_at word_table word_in name_in apart_text span_text limits_text range_text why_text refusal_text
 cycle = refl
 
-refused : reading_text (ascii "junction cycle 29") (Refused Range cycle_entry 15) ≡ ascii "line 1, column 16: " ++ answer_text (No Range cycle_entry)
+refused : reading_text (ascii "junction cycle 29") (Err (Refused Range cycle_entry 15)) ≡ ascii "line 1, column 16: " ++ answer_text (No Range cycle_entry)
 unfolding ascii digits decimal numbered line_at column_at place_text
 refused = refl

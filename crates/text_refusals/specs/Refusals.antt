@@ -1,5 +1,5 @@
 -- What is said, in words, where a text or a call is refused.
-use Rattle.std.specs.Prelude.{ℕ, ◌+◌, cond, List, [], ◌++◌, eqb, ltb}
+use Rattle.std.specs.Prelude.{ℕ, ◌+◌, cond, List, [], ◌++◌, eqb, ltb, Ok, Err}
 use Rattle.layout.specs.Entries.{approach_count}
 use Rattle.answers.specs.Answers.{refusal_number}
 use Rattle.answers.specs.declared.Refusal.{Refusal}
@@ -17,8 +17,8 @@ use Rattle.text_scan.specs.Scanning.{unmarked}
 use Rattle.text_quotes.specs.Quotes.{word_at}
 use Rattle.text_places.specs.Places.{place_text}
 use Rattle.text_troubles.specs.Troubles.{trouble_text}
-use Rattle.text_reader.specs.declared.Reading.{Reading}
-use Rattle.text_reader.specs.declared.Reading.TheVariants.{Read, Misread, Refused}
+use Rattle.text_reader.specs.Reader.{Reading}
+use Rattle.text_reader.specs.declared.Misreading.TheVariants.{Misread, Refused}
 
 -- "0 or ", where the usual value stands apart, below the range
 unfoldable pub apart_text : Kind → List ℕ
@@ -73,9 +73,9 @@ answer_text (No why place) = refusal_text why place
 
 -- of a text past its mark
 abbrev pub said_of : List ℕ → Reading → List ℕ
-said_of text Read = []
-said_of text (Misread why place) = place_text text place ++ trouble_text why (word_at text place)
-said_of text (Refused why at place) = place_text text place ++ refusal_text why at
+said_of text (Ok done) = []
+said_of text (Err (Misread mistake)) = place_text text mistake.place ++ trouble_text mistake.why (word_at text mistake.place)
+said_of text (Err (Refused why at place)) = place_text text place ++ refusal_text why at
 
 abbrev pub reading_text : List ℕ → Reading → List ℕ
 reading_text text reading = said_of (unmarked text) reading

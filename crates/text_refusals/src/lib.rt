@@ -10,7 +10,7 @@ ghost use Rattle.text_refusals.specs.Working.{apart_most, span_most, limits_most
 
 use answers::{Answer, Refusal};
 use kinds::Kind;
-use text_reader::Reading;
+use text_reader::Misreading;
 use text_values::Trouble;
 
 // Room for anything that is said: a place, and a refusal or a trouble.
@@ -150,16 +150,19 @@ pub fn say_trouble(why: Trouble, word: &[u8], out: &mut [u8; SAYING_BYTES]) -> u
     text_troubles::put_trouble(out, 0, why, word)
 }
 
-fn put_reading(text: &[u8], reading: Reading, out: &mut [u8; SAYING_BYTES]) -> usize
+fn put_reading(text: &[u8], reading: Result<(), Misreading>, out: &mut [u8; SAYING_BYTES]) -> usize
     ensures { Placed out.old 0 (said_of text.now reading) out.new result }
 {
-    match reading {
-        Reading::Read => 0,
-        Reading::Misread(why, byte) => {
-            let at = text_places::put_place(out, text, byte);
-            text_troubles::put_trouble(out, at, why, text_quotes::word_at(text, byte))
+    let Err(why) = reading else {
+        return 0;
+    };
+    match why {
+        Misreading::Misread(mistake) => {
+            let at = text_places::put_place(out, text, mistake.place);
+            let word = text_quotes::word_at(text, mistake.place);
+            text_troubles::put_trouble(out, at, mistake.why, word)
         }
-        Reading::Refused(why, place, byte) => {
+        Misreading::Refused(why, place, byte) => {
             let at = text_places::put_place(out, text, byte);
             put_refusal(out, at, why, place)
         }
@@ -167,7 +170,11 @@ fn put_reading(text: &[u8], reading: Reading, out: &mut [u8; SAYING_BYTES]) -> u
 }
 
 // Writes what is wrong with a text and where, and tells how many bytes; nothing where it was read.
-pub fn say_reading(text: &[u8], reading: Reading, out: &mut [u8; SAYING_BYTES]) -> usize
+pub fn say_reading(
+    text: &[u8],
+    reading: Result<(), Misreading>,
+    out: &mut [u8; SAYING_BYTES],
+) -> usize
     ensures { Placed out.old 0 (reading_text text.now reading) out.new result }
 {
     put_reading(text_scan::unmarked(text), reading, out)

@@ -10,9 +10,11 @@ use borrow.Author.Tests.{lt-ltb, le-ltb}
 use native.Mathlib.Nat.{add-zero, add-suc}
 use native.Mathlib.Numerals.{add-one}
 use native.Mathlib.Omega.{arith}
-use Rattle.text_words.specs.Words.{State, taken}
+use Rattle.text_words.specs.Words.{taken}
+use Rattle.text_words.specs.declared.State.{State}
 use Rattle.text_titles.specs.Blanks.{hash, ends_word}
-use Rattle.text_scan.specs.Scanning.{Scan, word_taken, next, scanned}
+use Rattle.text_scan.specs.Scanning.{scan, word_taken, next, scanned}
+use Rattle.text_scan.specs.declared.Scan.{Scan}
 
 -- bytes that stand at a place of a text
 
@@ -42,7 +44,7 @@ module _ (text : List ℕ) (at : ℕ) where
 -- reading bytes at a place, where no word has begun, leads from one state to another, and again no word has begun
 
 abbrev pub fresh : State → ℕ → Scan
-fresh s at = record { state = s; begun = at; is_comment = false }
+fresh s at = scan s at false
 
 abbrev pub Reads : List ℕ → ℕ → List ℕ → State → State → Type 0
 Reads text at bytes s t = scanned text at ≡ fresh s at → scanned text (at + length bytes) ≡ fresh t (at + length bytes)

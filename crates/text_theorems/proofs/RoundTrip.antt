@@ -1,7 +1,7 @@
 -- What is written is read back: the text of any entries is read as those entries. Each word of the table is found in its own
 -- row, each entry's text sets that entry, and so do the texts of all the entries, one after the other.
 use Prim.Native.Nat.{ℕ, zero, suc, ◌+◌, ◌-◌, ◌^◌, ◌<◌, ◌≤◌}
-use mathlib.Core.Path.{◌≡◌, refl, sym, ◌∙◌}
+use mathlib.Core.Path.{◌≡◌, refl, sym, ap, ◌∙◌}
 use mathlib.Core.Bool.{Bool, true, false, cond, not, ◌&&◌, ◌||◌}
 use mathlib.Core.List.{List, [], ◌∷◌, ◌++◌, append_assoc}
 use lib.ListN.{length, get_or, drop, set, replicate}
@@ -11,6 +11,8 @@ use borrow.Author.Tests.{eqb-true, ne_eqb, not-true, ltb-true, le-ltb}
 use native.Mathlib.Nat.{add-zero, zero-add}
 use native.Mathlib.Numerals.{add-one}
 use native.Mathlib.Omega.{arith}
+use Rattle.std.specs.Prelude.{Option, None, Some, Ok}
+use Rattle.std.specs.Option.{option_eq}
 use Rattle.layout.specs.declared.Worksheet.{Worksheet}
 use Rattle.layout.specs.Entries.{entry_count}
 use Rattle.lists.specs.Lists.{AllBelow, table}
@@ -27,15 +29,14 @@ use Rattle.text_values.proofs.Laws.{value_read, value_bytes, value_some}
 use Rattle.text_names.specs.Names.{space, line_feed, title_count, word_count, word_table, word_in, word_of, agrees, is_word, found_in, row_of, junction}
 use Rattle.text_names.specs.Names.{class_at, title_of, kind_of, is_first, is_last}
 use Rattle.text_names.proofs.Laws.{in_place}
-use Rattle.text_words.specs.Words.{stands, State, state}
+use Rattle.text_words.specs.Words.{stands, state}
+use Rattle.text_words.specs.declared.State.{State}
 use Rattle.text_words.proofs.Laws.{title_named, kind_named, value_set}
 use Rattle.text_titles.specs.Blanks.{tab, carriage_return, hash, ends_word}
 use Rattle.text_titles.specs.Titles.{titling_of}
-use Rattle.text_titles.specs.declared.Titling.TheVariants.{Untitled}
 use Rattle.text_titles.proofs.Laws.{no_title}
 use Rattle.text_scan.specs.Scanning.{word_taken, scanned, start, usually, ended, words_parsed, unmarked, parsed}
 use Rattle.text_reader.specs.Reader.{text_most, short_reading, reading, kept_unless_read}
-use Rattle.text_reader.specs.declared.Reading.TheVariants.{Read}
 use Rattle.text_writer.specs.Writer.{opening, closing, named, entry_text, entry_texts, junction_text}
 use Rattle.text_writer.proofs.Laws.{length-entry_texts}
 use Rattle.text_theorems.proofs.Reading.{Has, has_first, has_second, Reads, reads_both, Word, Blank, reads_word}
@@ -49,24 +50,28 @@ abbrev is_one_word : List ℕ → Bool
 is_one_word word = ltb 0 (length word) && holds_below (goes_on word) (length word)
 
 is_found : ℕ → Bool
-is_found row = eqb (row_of (word_of row)) row && is_one_word (word_of row)
+is_found row = option_eq eqb (row_of (word_of row)) (Some row) && is_one_word (word_of row)
 
 each_found : holds_below is_found word_count ≡ true
 unfolding is_found word_table ascii joined word_in agrees is_word found_in
 each_found = refl
 
+same_row : (found : Option ℕ) (row : ℕ) → option_eq eqb found (Some row) ≡ true → found ≡ Some row
+same_row None row same = cc
+same_row (Some one) row same = ap Some (eqb-true one row same)
+
 record InTable (row : ℕ) : Type 0 where
-  is : row_of (word_of row) ≡ row
+  is : row_of (word_of row) ≡ Some row
   word : Word (word_of row)
 
 in_table : (row : ℕ) → row < word_count → InTable row
 unfolding is_found
 in_table row h =
     let word = word_of row in
-    let found = both_true (eqb (row_of word) row) (is_one_word word) (at_each is_found word_count each_found row h) in
+    let found = both_true (option_eq eqb (row_of word) (Some row)) (is_one_word word) (at_each is_found word_count each_found row h) in
     let one = both_true (ltb 0 (length word)) (holds_below (goes_on word) (length word)) found.1 in
     record {
-      is = eqb-true (row_of word) row found.0;
+      is = same_row (row_of word) row found.0;
       word = record {
         some = ltb-true 0 (length word) one.0;
         plain = λ i l. not-true (ends_word (get_or word i 0)) (at_each (goes_on word) (length word) one.1 i l);
@@ -106,13 +111,13 @@ closing_blank i = by (is_last i)
 
 -- an entry's text sets that entry, from a state under its title, or under any if the text names the title
 
-module _ (text : List ℕ) (at i title : ℕ) (entries places : List ℕ)
-    (h : i < entry_count) (same : is_first i ≡ false → title ≡ title_of i) where
+module _ (text : List ℕ) (at i : ℕ) (title : Option ℕ) (entries : List ℕ) (places : List (Option ℕ))
+    (h : i < entry_count) (same : is_first i ≡ false → title ≡ Some (title_of i)) where
   abbrev before : State
-  before = state (stands title entry_count) entries places
+  before = state (stands title None) entries places
 
   abbrev titled : State
-  titled = state (stands (title_of i) entry_count) entries places
+  titled = state (stands (Some (title_of i)) None) entries places
 
   reads_opening : Has text at (opening i) → Reads text at (opening i) before titled
   unfolding opening
@@ -128,8 +133,8 @@ module _ (text : List ℕ) (at i title : ℕ) (entries places : List ℕ)
           (reads_word text at word space before has row.word space_blank)
       by false e has = λ r. rw (add-zero at, ← same e) r
 
-  reads_named : get_or places i 0 ≡ 0 → Has text at (named i)
-      → Reads text at (named i) before (state (stands (title_of i) i) entries places)
+  reads_named : get_or places i None ≡ None → Has text at (named i)
+      → Reads text at (named i) before (state (stands (Some (title_of i)) (Some i)) entries places)
   unfolding named
   reads_named none whole =
       let word = word_of (title_count + kind_of i) in
@@ -139,24 +144,24 @@ module _ (text : List ℕ) (at i title : ℕ) (entries places : List ℕ)
       let under = in_place i h in
       let there : title_count + kind_of i < word_count = omega (arith, under.kind) in
       let row = in_table (title_count + kind_of i) there in
-      let takes = kind_named past word (title_of i) entries places (kind_of i) i row.is there under.title in
+      let takes = kind_named past word (title_of i) entries places (kind_of i) i row.is in
       let is = takes under.has under.entry none in
       let second = has_second text at (opening i) name has in
       rw (append_assoc (opening i) word (space ∷ []))
       (reads_both text at (opening i) name (reads_opening (has_first text at (opening i) name has))
       (rw is at (reads_word text past word space titled second row.word space_blank)))
 
-  reads_entry : (value : ℕ) → value < too_large → get_or places i 0 ≡ 0 → Has text at (entry_text i value)
+  reads_entry : (value : ℕ) → value < too_large → get_or places i None ≡ None → Has text at (entry_text i value)
       → Reads text at (entry_text i value) before
-      (state (stands (title_of i) entry_count) (set entries i value) (set places i (at + length (named i) + 1)))
+      (state (stands (Some (title_of i)) None) (set entries i value) (set places i (Some (at + length (named i)))))
   unfolding entry_text
   reads_entry value fits none whole =
       let word = value_text (kind_at i) value in
       let told = word ++ (closing i ∷ []) in
       let past = at + length (named i) in
       let has = rw (append_assoc (named i) word (closing i ∷ [])) at whole in
-      let is = value_set past word (title_of i) entries places i value (value_read (kind_at i) value fits) h in
-      let due = state (stands (title_of i) i) entries places in
+      let is = value_set past word (Some (title_of i)) entries places i value (value_read (kind_at i) value fits) in
+      let due = state (stands (Some (title_of i)) (Some i)) entries places in
       let second = has_second text at (named i) told has in
       rw (append_assoc (named i) word (closing i ∷ []))
       (reads_both text at (named i) told (reads_named none (has_first text at (named i) told has))
@@ -164,20 +169,20 @@ module _ (text : List ℕ) (at i title : ℕ) (entries places : List ℕ)
 
 -- the title that was named last, past the first n entries, is that of the next unless the next is its title's first
 
-abbrev title_after : ℕ → ℕ
-title_after zero = title_count
-title_after (suc n) = title_of n
+abbrev title_after : ℕ → Option ℕ
+title_after zero = None
+title_after (suc n) = Some (title_of n)
 
 goes_under : ℕ → Bool
-goes_under n = is_first n || eqb (title_after n) (title_of n)
+goes_under n = is_first n || option_eq eqb (title_after n) (Some (title_of n))
 
 all_go : holds_below goes_under entry_count ≡ true
 unfolding goes_under class_at
 all_go = refl
 
-same_title : (n : ℕ) → n < entry_count → is_first n ≡ false → title_after n ≡ title_of n
+same_title : (n : ℕ) → n < entry_count → is_first n ≡ false → title_after n ≡ Some (title_of n)
 unfolding goes_under
-same_title n h later = eqb-true _ _ (rw later at (at_each goes_under entry_count all_go n h))
+same_title n h later = same_row (title_after n) (title_of n) (rw later at (at_each goes_under entry_count all_go n h))
 
 -- past the first n entries they are set and the others are not
 
@@ -185,15 +190,15 @@ abbrev value_in : List ℕ → ℕ → ℕ
 value_in e i = get_or e i 0
 
 record Reached (e text : List ℕ) (n : ℕ) : Type 0 where
-  places : List ℕ
-  reads : Reads text 0 (entry_texts e n) (start Untitled).state
-      (state (stands (title_after n) entry_count) (table (value_in e) n ++ drop n (table usually entry_count)) places)
-  none : (i : ℕ) → n ≤ i → get_or places i 0 ≡ 0
+  places : List (Option ℕ)
+  reads : Reads text 0 (entry_texts e n) (start (Ok None)).state
+      (state (stands (title_after n) None) (table (value_in e) n ++ drop n (table usually entry_count)) places)
+  none : (i : ℕ) → n ≤ i → get_or places i None ≡ None
 
-zeros : (n i : ℕ) → ◌≡◌ {A = ℕ} (get_or (replicate n 0) i 0) 0
-zeros zero i = refl
-zeros (suc n) zero = refl
-zeros (suc n) (suc i) = zeros n i
+no_places : (n i : ℕ) → ◌≡◌ {A = Option ℕ} (get_or (replicate n None) i None) None
+no_places zero i = refl
+no_places (suc n) zero = refl
+no_places (suc n) (suc i) = no_places n i
 
 module _ (e text : List ℕ) (fits : AllBelow too_large e) where
   one_more : (n : ℕ) → n < entry_count → Has text (0 + length (entry_texts e n)) (entry_text n (value_in e n))
@@ -210,16 +215,16 @@ module _ (e text : List ℕ) (fits : AllBelow too_large e) where
       record {
         places = set r.places n _;
         reads = reads_both text 0 (entry_texts e n) (entry_text n value) r.reads (rw set_one at entry);
-        none = λ i l. get_or-set_other r.places n i _ 0 (λ q. omega arith) ∙ r.none i (omega arith);
+        none = λ i l. get_or-set_other r.places n i _ None (λ q. omega arith) ∙ r.none i (omega arith);
       }
 
   reached : (n : ℕ) → n ≤ entry_count → Has text 0 (entry_texts e n) → Reached e text n
   unfolding entry_texts table
   reached zero h has =
       record {
-        places = replicate entry_count 0;
+        places = replicate entry_count None;
         reads = λ r. r;
-        none = λ i l. zeros entry_count i;
+        none = λ i l. no_places entry_count i;
       }
   reached (suc n) h has =
       let entry = entry_text n (value_in e n) in
@@ -244,9 +249,10 @@ text_begins e (suc n) =
     begins (entry_texts e (suc n)) (entry_text (suc n) (value_in e (suc n))) letter_e (omega arith) (text_begins e n)
 
 no_mark : (text : List ℕ) → get_or text 0 0 ≡ letter_e → unmarked text ≡ text
-no_mark text is = rw is
+no_mark [] is = absurd (omega (arith, is))
+no_mark (x ∷ text) is = rw is
 
-not_titled : (text : List ℕ) → get_or text 0 0 ≡ letter_e → titling_of text ≡ Untitled
+not_titled : (text : List ℕ) → get_or text 0 0 ≡ letter_e → titling_of text ≡ Ok None
 not_titled text is = no_title text (rw is refl) (rw is refl)
 
 -- as many numbers of 32 bits as there are entries, written and read
@@ -262,7 +268,7 @@ module _ (e : List ℕ) (size : length e ≡ entry_count) (fits : AllBelow (2 ^ 
       rw (length-table usually entry_count) at (filled_all value (table usually entry_count))
       ∙ ext_get_or 0 (table value entry_count) e (l ∙ sym size) (λ i h. table_at value entry_count i (omega arith))
 
-  parsed_back : parsed (junction_text e) ≡ state (stands junction.title entry_count) e all_reached.places
+  parsed_back : parsed (junction_text e) ≡ state (stands (Some junction.title) None) e all_reached.places
   unfolding words_parsed ended word_taken scanned class_at
   parsed_back =
       let end = length (junction_text e) in
@@ -277,11 +283,11 @@ module _ (e : List ℕ) (size : length e ≡ entry_count) (fits : AllBelow (2 ^ 
   entries_back = rw parsed_back
 
   -- nothing is wrong with the text: at its end the reader stands under the last title, and waits for no value
-  pub reads_well : (parsed (junction_text e)).reader ≡ stands junction.title entry_count
+  pub reads_well : (parsed (junction_text e)).reader ≡ stands (Some junction.title) None
   reads_well = rw parsed_back
 
   -- so the text of entries that are acceptable for a sheet of a kind is read for that kind, and leaves them
-  pub read_back : (k : Worksheet) → judged_for k e ≡ Accepted → reading k (junction_text e) ≡ Read
+  pub read_back : (k : Worksheet) → judged_for k e ≡ Accepted → reading k (junction_text e) ≡ Ok tt
   unfolding reading short_reading
   read_back k good = rw (le-ltb text_most (length (junction_text e)) (omega (arith, length-entry_texts e entry_count)), parsed_back, good)
 

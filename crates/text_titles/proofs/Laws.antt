@@ -1,18 +1,21 @@
--- Laws of what is passed over at the front of a text, of the bytes that it begins with, and of its title, part after part.
+-- Laws of what is passed over at the front of a text, and of its title, part after part.
 use Prim.Native.Nat.{ℕ, suc, ◌+◌, ◌<◌, ◌≤◌}
-use mathlib.Core.Path.{◌≡◌, refl}
-use mathlib.Core.Bool.{Bool, true, false, ◌&&◌}
+use mathlib.Core.Path.{◌≡◌, refl, ap}
+use mathlib.Core.Bool.{Bool, true, false, cond, not}
 use mathlib.Core.List.{List, [], ◌∷◌}
 use lib.ListN.{length, get_or, drop, length-drop, drop_of_length-le}
 use lib.Seq.{drop-cons}
-use lib.Dec.{eqb}
+use lib.Dec.{eqb, ltb}
+use borrow.Author.Tests.{ltb-true, ltb-false}
 use native.Mathlib.Numerals.{add-one}
 use native.Mathlib.Omega.{arith}
 use Rattle.text_titles.specs.Blanks.{is_lead, goes_on, lead_size}
 use Rattle.text.specs.Text.{ascii, first_in}
-use Rattle.text_titles.specs.Titles.{ends_run, begins_with, title_bytes, lead, rest, gap, inner, size, is_quoted, titled_at, titling_of}
-use Rattle.text_titles.specs.declared.Run.TheVariants.{Blanks, Title}
-use Rattle.text_titles.specs.declared.Titling.TheVariants.{Untitled, Mistitled}
+use Rattle.std.specs.Prelude.{None, Some, Ok, Err, unwrap_or}
+use Rattle.std.specs.List.{position, position_or_len}
+use Rattle.std.proofs.lemmas.List.Recursion.{is_position_or_len}
+use Rattle.std.proofs.lemmas.List.Sums.{prefix_len-le-length}
+use Rattle.text_titles.specs.Titles.{ends_gap, ends_title, begins_with, title_bytes, lead, rest, gap, inner, size, is_quoted, titled_at, titling_of}
 
 module _ (text : List ℕ) (at : ℕ) where
   module _ (comments : Bool) where
@@ -29,27 +32,32 @@ module _ (text : List ℕ) (at : ℕ) where
     unfolding lead_size
     lead_ends h = rw (drop_of_length-le text h)
 
-  module _ (bytes : List ℕ) where
-    pub begins_on : at < length text → at < length bytes
-        → begins_with (drop at text) (drop at bytes)
-        ≡ (eqb (get_or text at 0) (get_or bytes at 0) && begins_with (drop (at + 1) text) (drop (at + 1) bytes))
-    unfolding begins_with
-    begins_on h few = rw (add-one at, drop-cons text at 0 h, drop-cons bytes at 0 few)
+one_more : (n : ℕ) → suc n ≡ 1 + n
+one_more n = omega arith
 
-    pub begins_short : length text ≤ at → at < length bytes → begins_with (drop at text) (drop at bytes) ≡ false
-    unfolding begins_with
-    begins_short h few = rw (drop_of_length-le text h, drop-cons bytes at 0 few)
+-- the first byte for which a test holds, as the library's search tells it
+module _ (test : ℕ → Bool) (text : List ℕ) where
+  abbrev place : ℕ
+  place = position_or_len test text
 
-    pub begins_ends : length bytes ≤ at → begins_with (drop at text) (drop at bytes) ≡ true
-    unfolding begins_with
-    begins_ends h = rw (drop_of_length-le bytes h)
+  first_is : first_in test text ≡ place
+  unfolding first_in
+  first_is = is_position_or_len (first_in test) test refl (λ byte bytes. ap (λ (n : ℕ). cond (test byte) 0 n) (one_more (first_in test bytes))) text
+
+  pub first_found : (unwrap_or (position test text) (length text) ≡ first_in test text) × (unwrap_or (position test text) (length text) ≤ length text)
+  first_found = rw first_is (by (ltb place (length text)) refl)
+    where
+      by : (b : Bool) → ltb place (length text) ≡ b
+          → (unwrap_or (cond b (Some place) None) (length text) ≡ place) × (unwrap_or (cond b (Some place) None) (length text) ≤ length text)
+      by true e = (refl, omega (arith, ltb-true place (length text) e))
+      by false e = (omega (arith, ltb-false place (length text) e, prefix_len-le-length (λ byte. not (test byte)) text), omega arith)
 
 -- a text whose first byte is neither passed over nor the t of `title` has none
 abbrev letter_t : ℕ
 letter_t = 116
 
-pub no_title : (text : List ℕ) → is_lead false (get_or text 0 0) ≡ false → eqb (get_or text 0 0) letter_t ≡ false → titling_of text ≡ Untitled
-unfolding titling_of lead_size begins_with ascii
+pub no_title : (text : List ℕ) → is_lead false (get_or text 0 0) ≡ false → eqb (get_or text 0 0) letter_t ≡ false → titling_of text ≡ Ok None
+unfolding titling_of lead_size ascii
 no_title [] first other = refl
 no_title (byte ∷ bytes) first other = rw (first, other)
 
@@ -58,12 +66,12 @@ module _ (text : List ℕ) {l : ℕ} {word : List ℕ} (led : l ≡ lead text) (
   word_is : word ≡ drop (lead text) text
   word_is = rw led at worded
 
-  pub untitled : begins_with word (ascii "title") ≡ false → titling_of text ≡ Untitled
+  pub untitled : begins_with word (ascii "title") ≡ false → titling_of text ≡ Ok None
   unfolding titling_of
   untitled other = rw (rw word_is at other)
 
-  module _ {r i : List ℕ} {g s : ℕ} (rests : r ≡ drop title_bytes word) (gaps : g ≡ first_in (ends_run Blanks) r) (inners : i ≡ drop (g + 1) r)
-      (sizes : s ≡ first_in (ends_run Title) i) where
+  module _ {r i : List ℕ} {g s : ℕ} (rests : r ≡ drop title_bytes word) (gaps : g ≡ first_in ends_gap r) (inners : i ≡ drop (g + 1) r)
+      (sizes : s ≡ first_in ends_title i) where
     rest_is : r ≡ rest text
     rest_is = rw word_is at rests
 
@@ -76,11 +84,11 @@ module _ (text : List ℕ) {l : ℕ} {word : List ℕ} (led : l ≡ lead text) (
     size_is : s ≡ size text
     size_is = rw inner_is at sizes
 
-    pub mistitled : begins_with word (ascii "title") ≡ true → is_quoted r g i s ≡ false → titling_of text ≡ Mistitled l
+    pub mistitled : begins_with word (ascii "title") ≡ true → is_quoted r g i s ≡ false → titling_of text ≡ Err l
     unfolding titling_of
     mistitled begun bad = rw (rw word_is at begun, rw (rest_is, gap_is, inner_is, size_is) at bad, led)
 
-    pub titled : begins_with word (ascii "title") ≡ true → is_quoted r g i s ≡ true → titling_of text ≡ titled_at l g s
+    pub titled : begins_with word (ascii "title") ≡ true → is_quoted r g i s ≡ true → titling_of text ≡ Ok (Some (titled_at l g s))
     unfolding titling_of
     titled begun good = rw (rw word_is at begun, rw (rest_is, gap_is, inner_is, size_is) at good, led, gap_is, size_is)
 

@@ -1,11 +1,10 @@
 -- A junction's text may begin with its title in quotes, before any other word: `title "Elm Street and 3rd Avenue"`.
-use Rattle.std.specs.Prelude.{ℕ, ◌+◌, Bool, true, false, cond, not, ◌&&◌, ◌||◌, List, [], ◌∷◌, get_or, take, drop, eqb, leb, ltb}
+use Rattle.std.specs.Prelude.{ℕ, ◌+◌, Bool, false, cond, not, ◌&&◌, ◌||◌, List, [], length, get_or, take, drop, eqb, leb, ltb}
+use Rattle.std.specs.Prelude.{Option, None, Some, Result, Ok, Err}
+use Rattle.std.specs.Str.{bytes_eq}
 use Rattle.text.specs.Text.{ascii, first_in}
 use Rattle.text_titles.specs.Blanks.{is_blank, lead_size}
-use Rattle.text_titles.specs.declared.Run.{Run}
-use Rattle.text_titles.specs.declared.Run.TheVariants.{Blanks, Title}
-use Rattle.text_titles.specs.declared.Titling.{Titling}
-use Rattle.text_titles.specs.declared.Titling.TheVariants.{Untitled, Titled, Mistitled}
+use Rattle.text_titles.specs.declared.Title.{Title}
 
 -- the byte of a quote
 abbrev pub quote : ℕ
@@ -23,16 +22,13 @@ steers byte = ltb byte 32 || eqb byte 127
 abbrev pub ends_title : ℕ → Bool
 ends_title byte = steers byte || eqb byte quote
 
--- the byte that ends a run of blanks, and of a title's bytes
-abbrev pub ends_run : Run → ℕ → Bool
-ends_run Blanks byte = not (is_blank byte)
-ends_run Title byte = ends_title byte
+-- the byte that ends blanks
+abbrev pub ends_gap : ℕ → Bool
+ends_gap byte = not (is_blank byte)
 
 -- whether a text begins with some bytes
-unfoldable pub begins_with : List ℕ → List ℕ → Bool
-begins_with text [] = true
-begins_with [] (byte ∷ bytes) = false
-begins_with (first ∷ text) (byte ∷ bytes) = eqb first byte && begins_with text bytes
+abbrev pub begins_with : List ℕ → List ℕ → Bool
+begins_with text bytes = bytes_eq (take (length bytes) text) bytes
 
 abbrev pub title_bytes : ℕ
 title_bytes = 5
@@ -46,36 +42,40 @@ module _ (text : List ℕ) where
   rest = drop title_bytes (drop lead text)
 
   abbrev pub gap : ℕ
-  gap = first_in (ends_run Blanks) rest
+  gap = first_in ends_gap rest
 
   abbrev pub inner : List ℕ
   inner = drop (gap + 1) rest
 
   abbrev pub size : ℕ
-  size = first_in (ends_run Title) inner
+  size = first_in ends_title inner
+
+abbrev pub is_title_size : ℕ → Bool
+is_title_size size = not (eqb size 0) && leb size title_most
 
 -- blanks, a quote, a title's bytes, and a quote
 unfoldable pub is_quoted : List ℕ → ℕ → List ℕ → ℕ → Bool
 is_quoted rest gap inner size =
-    not (eqb gap 0) && (eqb (get_or rest gap 0) quote && (not (eqb size 0) && (leb size title_most && eqb (get_or inner size 0) quote)))
+    not (eqb gap 0) && (eqb (get_or rest gap 0) quote && (is_title_size size && eqb (get_or inner size 0) quote))
 
 -- the title's place, its bytes, and the place past its quote
-abbrev pub titled_at : ℕ → ℕ → ℕ → Titling
-titled_at lead gap size = Titled (lead + title_bytes + gap + 1) size (lead + title_bytes + gap + 1 + size + 1)
+abbrev pub titled_at : ℕ → ℕ → ℕ → Title
+titled_at lead gap size =
+    record { from = lead + title_bytes + gap + 1; size = size; past = lead + title_bytes + gap + 1 + size + 1 }
 
--- no title; the title and where it stands; or the place of the word `title` where it is not so written
-unfoldable pub titling_of : List ℕ → Titling
+-- no title; where the title stands; or the place of the word `title` where it is not so written
+unfoldable pub titling_of : List ℕ → Result (Option Title) ℕ
 titling_of text =
     cond (begins_with (drop (lead text) text) (ascii "title"))
     (cond (is_quoted (rest text) (gap text) (inner text) (size text))
-    (titled_at (lead text) (gap text) (size text))
-    (Mistitled (lead text)))
-    Untitled
+    (Ok (Some (titled_at (lead text) (gap text) (size text))))
+    (Err (lead text)))
+    (Ok None)
 
-abbrev pub title_by : Titling → List ℕ → List ℕ
-title_by Untitled text = []
-title_by (Titled from size past) text = take size (drop from text)
-title_by (Mistitled place) text = []
+abbrev pub title_by : Result (Option Title) ℕ → List ℕ → List ℕ
+title_by (Ok (Some title)) text = take title.size (drop title.from text)
+title_by (Ok None) text = []
+title_by (Err place) text = []
 
 -- the title's bytes
 abbrev pub title_of : List ℕ → List ℕ

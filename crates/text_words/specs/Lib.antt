@@ -1,1 +1,3 @@
+pub mod Standing
 pub mod Words
+pub mod Working

@@ -1,124 +1,142 @@
 // The words of a junction's text, taken one after the other: each names a title, or an entry, or is the value of one.
 #![tactic(auto)]
 
-ghost use Rattle.std.specs.Prelude.{◌≡◌, ◌-◌, ◌<◌, ◌^◌, length};
+ghost use Rattle.std.specs.Prelude.{◌≡◌, ◌<◌};
 ghost use Rattle.layout.specs.Entries.{entry_count};
-ghost use Rattle.text_names.specs.Names.{kind_count};
-ghost use Rattle.text_words.specs.Words.{stands, wrong, taken_kind, taken_name, state, taken_value, taken};
+ghost use Rattle.text_names.specs.Names.{kind_count, row_of};
+ghost use Rattle.text_words.specs.Words.{wrong, taken_kind, taken_name, state, taken_value, taken};
 
 use kinds::Kind;
 use layout::ENTRIES;
+use std::marker::Model;
 use text_values::{Trouble, Value};
 
+// The first thing wrong with a text: the trouble, and the place of its word.
 #[derive(Clone, Copy)]
-pub enum Found {
-    Well,
-    // The trouble, and the place of its word.
-    Wrong(Trouble, usize),
+pub struct Mistake {
+    pub why: Trouble,
+    pub place: usize,
 }
 
-// The title that was named last, the entry whose value is due (ENTRIES if none is), and what was found so far.
+// Where a reader stands: the title that was named last, and the entry whose value is due.
 #[derive(Clone, Copy)]
 pub struct Reader {
-    pub title: u32,
-    pub wanted: usize,
-    pub found: Found,
+    pub title: Option<u32>,
+    pub wanted: Option<usize>,
+}
+
+impl Model for Reader {
+    ghost use Rattle.text_words.specs.Standing.{Standing};
+    ghost use Rattle.text_words.specs.Working.{IsWithin};
+
+    ghost Value = { Standing };
+
+    ghost view = { λ r. record { title = r.title; wanted = r.wanted } };
+
+    ghost invariant = { λ r. IsWithin r.title r.wanted };
+
+    ghost inverse = { λ s. record { title = s.title; wanted = s.wanted } };
+}
+
+fn wrong(why: Trouble, place: usize) -> Result<Reader, Mistake>
+    ensures { result ≡ wrong why place }
+{
+    Err(Mistake { why, place })
 }
 
 impl Reader {
-    pub fn stands(title: u32, wanted: usize) -> Reader
-        ensures { result ≡ stands title wanted }
+    #[tactic(auto, unfolding(crate::specs::Words::taken_kind))]
+    fn take_kind(
+        self,
+        place: usize,
+        kind: u32,
+        places: &[Option<usize>; ENTRIES],
+    ) -> Result<Reader, Mistake>
+        requires { kind < kind_count }
+        ensures { result ≡ taken_kind place kind places.now self.title }
     {
-        Reader {
-            title,
-            wanted,
-            found: Found::Well,
+        let Some(title) = self.title else {
+            return wrong(Trouble::NoTitle, place);
+        };
+        if !text_names::has_kind(title, kind) {
+            return wrong(Trouble::NotOfTitle, place);
         }
+        let entry = text_names::entry_in(title, kind) as usize;
+        if places[entry].is_some() {
+            return wrong(Trouble::Twice, place);
+        }
+        Ok(Reader {
+            title: Some(title),
+            wanted: Some(entry),
+        })
     }
 
-    pub fn wrong(self, why: Trouble, place: usize) -> Reader
-        ensures { result ≡ wrong why place self }
+    #[tactic(auto, unfolding(crate::specs::Words::taken_name))]
+    fn take_name(
+        self,
+        place: usize,
+        word: &[u8],
+        places: &[Option<usize>; ENTRIES],
+    ) -> Result<Reader, Mistake>
+        ensures { result ≡ taken_name place (row_of word.now) places.now self.title }
     {
-        Reader {
-            title: self.title,
-            wanted: self.wanted,
-            found: Found::Wrong(why, place),
+        let Some(row) = text_names::row_of(word) else {
+            return wrong(Trouble::Unknown, place);
+        };
+        if row < text_names::TITLES {
+            return Ok(Reader {
+                title: Some(row),
+                wanted: None,
+            });
+        }
+        self.take_kind(place, row - text_names::TITLES, places)
+    }
+}
+
+// What is read so far: where the reader stands or what is wrong, the entries, and where the value of each begins that is written.
+#[derive(Clone, Copy)]
+pub struct State {
+    pub reader: Result<Reader, Mistake>,
+    pub entries: [u32; ENTRIES],
+    pub places: [Option<usize>; ENTRIES],
+}
+
+impl State {
+    #[tactic(auto, unfolding(crate::specs::Words::taken_value))]
+    fn take_value(
+        &mut self,
+        place: usize,
+        word: &[u8],
+        reader: Reader,
+        entry: usize,
+    ) -> Result<Reader, Mistake>
+        requires { entry < entry_count }
+        ensures { state result self.new.entries self.new.places ≡ taken_value place word.now reader.title entry self.old }
+    {
+        match text_values::value_of(Kind::at(entry), word) {
+            Value::Is(value) => {
+                self.entries[entry] = value;
+                self.places[entry] = Some(place);
+                Ok(Reader {
+                    title: reader.title,
+                    wanted: None,
+                })
+            }
+            Value::Not(why) => wrong(why, place),
         }
     }
-}
 
-fn take_kind(place: usize, kind: u32, places: &[usize], reader: Reader) -> Reader
-    requires { (kind < kind_count) × (length places.now ≡ entry_count) }
-    ensures { result ≡ taken_kind place kind places.now reader }
-{
-    let title = reader.title;
-    if text_names::TITLES <= title {
-        return reader.wrong(Trouble::NoTitle, place);
+    // Takes a word that begins at a place; after the first thing wrong, nothing any more.
+    #[tactic(auto, unfolding(crate::specs::Words::taken))]
+    pub fn take(&mut self, place: usize, word: &[u8])
+        ensures { self.new ≡ taken place word.now self.old }
+    {
+        let Ok(reader) = self.reader else {
+            return;
+        };
+        self.reader = match reader.wanted {
+            Some(entry) => self.take_value(place, word, reader, entry),
+            None => reader.take_name(place, word, &self.places),
+        };
     }
-    if !text_names::has_kind(title, kind) {
-        return reader.wrong(Trouble::NotOfTitle, place);
-    }
-    let wanted = text_names::entry_in(title, kind) as usize;
-    if 0 < places[wanted] {
-        return reader.wrong(Trouble::Twice, place);
-    }
-    Reader::stands(title, wanted)
-}
-
-fn take_name(place: usize, row: u32, places: &[usize], reader: Reader) -> Reader
-    requires { length places.now ≡ entry_count }
-    ensures { result ≡ taken_name place row places.now reader }
-{
-    if row < text_names::TITLES {
-        return Reader::stands(row, ENTRIES);
-    }
-    if row < text_names::WORDS {
-        return take_kind(place, row - text_names::TITLES, places, reader);
-    }
-    reader.wrong(Trouble::Unknown, place)
-}
-
-fn take_value(
-    place: usize,
-    word: &[u8],
-    reader: Reader,
-    entries: &mut [u32],
-    places: &mut [usize],
-) -> Reader
-    requires { (place < 2 ^ 64 - 1) × (reader.wanted < entry_count) × (length entries.old ≡ entry_count) × (length places.old ≡ entry_count) }
-    ensures { state result entries.new places.new
-        ≡ taken_value place word.now (state reader entries.old places.old) }
-{
-    let wanted = reader.wanted;
-    let value = text_values::value_of(Kind::at(wanted), word);
-    match value {
-        Value::Is(number) => {
-            entries[wanted] = number;
-            places[wanted] = place + 1;
-            Reader::stands(reader.title, ENTRIES)
-        }
-        Value::Not(why) => reader.wrong(why, place),
-    }
-}
-
-// Takes a word that begins at a place; after the first thing wrong, nothing any more.
-pub fn take(
-    place: usize,
-    word: &[u8],
-    reader: Reader,
-    entries: &mut [u32],
-    places: &mut [usize],
-) -> Reader
-    requires { (place < 2 ^ 64 - 1) × (length entries.old ≡ entry_count) × (length places.old ≡ entry_count) }
-    ensures { state result entries.new places.new
-        ≡ taken place word.now (state reader entries.old places.old) }
-{
-    let found = reader.found;
-    let Found::Well = found else {
-        return reader;
-    };
-    if reader.wanted < ENTRIES {
-        return take_value(place, word, reader, entries, places);
-    }
-    take_name(place, text_names::row_of(word), places, reader)
 }

@@ -17,12 +17,8 @@ const SB_FROM: usize = NB_FROM + layout::LINES;
 
 const NB_SB_FROM: usize = layout::PAIRS_FROM + layout::PAIR_CELLS;
 
-fn wide(x: u32) -> u64 {
-    x as u64
-}
-
 fn print_number(x: u32) {
-    io::print_decimal(STDOUT, wide(x));
+    io::print_decimal(STDOUT, u64::from(x));
 }
 
 fn end_line() {
@@ -80,12 +76,9 @@ fn print_junction(block: &[u8]) {
 }
 
 fn print_all(file: &[u8]) {
-    let count = file.len() / study::BLOCK_BYTES;
-    for i in 0..count {
+    for (i, block) in file.chunks_exact(study::BLOCK_BYTES).enumerate() {
         print_title(i + 1);
-        let at = i * study::BLOCK_BYTES;
-        let end = at + study::BLOCK_BYTES;
-        print_junction(&file[at..end]);
+        print_junction(block);
     }
 }
 

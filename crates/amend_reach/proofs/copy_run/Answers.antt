@@ -1,20 +1,14 @@
--- Cell by cell: of the run, the cells from the next on are still old.
-use Rattle.amend_reach.proofs.Copies.{run_next, run_over}
-use Rattle.amend_reach.proofs.Merging.{none_copied, one_copied, all_copied}
-use Rattle.amend_reach.specs.Working.{run}
-use native.Mathlib.Omega.{arith}
-use Prim.Native.Nat.{◌+◌}
+-- Nothing where the run is empty; else a part of the sheet.
+use Rattle.amend_reach.proofs.Copies.{run_over, run_room, run_put}
+use Rattle.amend_reach.proofs.Merging.{merged_none}
+use mathlib.Core.Path.{sym, ◌∙◌}
 use Rattle.amend_reach.proofs.copy_run.Goals as goal
 
-pub loop-cell-init : goal.loop-cell-init
-loop-cell-init c = none_copied c.requires.0
+pub put-requires : goal.put-requires
+put-requires c = run_room c.args.from c.args.to c.args.fresh.now c.args.sheet.now c.requires.0 c.if-from-to.true c.requires.1
 
-pub loop-cell-preserved : goal.loop-cell-preserved
-loop-cell-preserved c =
-    let l = c.loop-cell in
-    let a = c.args in
-    let inside = c.loop-cell-test.true in
-    one_copied (run (l.cell + 1) a.to) l.cell (omega (arith, l.invariant.long, inside)) (λ j. run_next l.cell a.to j inside) l.invariant
+pub returns-then-from-to : goal.returns-then-from-to
+returns-then-from-to c = c.put.ensures ∙ run_put _ _ _ _ c.requires.0 c.if-from-to.true c.requires.1
 
-pub returns : goal.returns
-returns c = all_copied (run_over _ _ c.loop-cell-test.false) c.loop-cell.invariant
+pub returns-else-from-to : goal.returns-else-from-to
+returns-else-from-to c = sym (merged_none _ _ _ c.requires.0 (run_over _ _ c.if-from-to.false))

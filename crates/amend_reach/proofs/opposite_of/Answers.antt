@@ -7,6 +7,6 @@ pub returns-then-approach-eq0 : goal.returns-then-approach-eq0
 unfolding opposite
 returns-then-approach-eq0 c = (rw (eq-eqb _ _ c.if-approach-eq0.true), search rules)
 
-pub returns : goal.returns
+pub returns-else-approach-eq0 : goal.returns-else-approach-eq0
 unfolding opposite
-returns c = (rw (ne_eqb _ _ c.if-approach-eq0.false), search rules)
+returns-else-approach-eq0 c = (rw (ne_eqb _ _ c.if-approach-eq0.false), search rules)

@@ -1,11 +1,6 @@
 -- Change by change: the answer is that of those left.
 use Rattle.amend_sets.proofs.Changes.{Checked}
-use Prim.Native.Nat.{◌-◌, ◌/◌}
-use lib.ListN.{length}
 use Rattle.amend_sets.proofs.check_entries.Given as goal
 
 abbrev pub invariant-loop-n : goal.invariant-loop-n
 invariant-loop-n l = Checked l.changes l.n
-
-abbrev pub decreases-loop-n : goal.decreases-loop-n
-decreases-loop-n l = length l.changes / 2 - l.n

@@ -1,11 +1,6 @@
 -- Change by change: of the cells that some change reaches, those that the changes left reach are still old.
 use Rattle.amend_sets.proofs.Changes.{Renewed}
-use Prim.Native.Nat.{◌-◌, ◌/◌}
-use lib.ListN.{length}
 use Rattle.amend_sets.proofs.renew_changed.Given as goal
 
 abbrev pub invariant-loop-n : goal.invariant-loop-n
 invariant-loop-n l = Renewed l.changes l.kind l.fresh l.initial.sheet l.sheet l.n
-
-abbrev pub decreases-loop-n : goal.decreases-loop-n
-decreases-loop-n l = length l.changes / 2 - l.n

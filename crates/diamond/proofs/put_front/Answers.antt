@@ -12,6 +12,9 @@ returns c =
     let d = a.cells.now in
     let w = times_of a.w in
     let e = times_of a.e in
-    let times = over_then d 0 w e c.put_times.ensures c.put_times-2.ensures (omega arith) (omega (arith, c.requires.0)) in
-    over_then d 0 (w ++ e) (sides_of a.travel.0.0 a.w a.e) times c.put_sides.ensures (omega arith)
+    let one = rw c.times_of.ensures at c.put.ensures in
+    let two = rw c.times_of-2.ensures at c.put-2.ensures in
+    let three = rw c.sides_of.ensures at c.put-3.ensures in
+    let times = over_then d 0 w e one two (omega arith) (omega (arith, c.requires.0)) in
+    over_then d 0 (w ++ e) (sides_of a.travel.0.0 a.w a.e) times three (omega arith)
     (omega (arith, c.requires.0))

@@ -23,12 +23,12 @@ returns-in_default-judged c =
       cells_after = kept _ _ (sym answer ∙ c.in_default-judged.is);
     }
 
+pub new-requires : goal.new-requires
+new-requires c = sym c.judge-judged.ensures ∙ c.in-Accepted-judged.is
+
 pub write_cells-requires : goal.write_cells-requires
 unfolding cells_size
-write_cells-requires c = (
-  sym c.judge-judged.ensures ∙ c.in-Accepted-judged.is,
-  sized _ _ (sym c.check_cells-size.ensures ∙ c.in-Accepted.is),
-)
+write_cells-requires c = sized _ _ (sym c.check_cells-size.ensures ∙ c.in-Accepted.is)
 
 pub returns : goal.returns
 unfolding diamond_answer rated
@@ -37,5 +37,5 @@ returns c =
     let answer = passed _ c.check_cells-size.ensures c.in-Accepted.is judged in
     record {
       value = answer;
-      cells_after = c.write_cells.ensures ∙ renewed (diamond c.args.numbers.now) _ (sym answer);
+      cells_after = rw c.new.ensures at c.write_cells.ensures ∙ renewed (diamond c.args.numbers.now) _ (sym answer);
     }

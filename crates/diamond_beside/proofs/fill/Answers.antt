@@ -3,7 +3,6 @@ use Rattle.answers.proofs.Laws.{kept, renewed}
 use Rattle.diamond_beside.specs.Beside.{page_numbers, filled_page}
 use Rattle.diamond_beside.proofs.Laws.{rate_answers, rate_leaves}
 use mathlib.Core.Path.{sym, ◌∙◌}
-use native.Mathlib.Omega.{arith}
 use Rattle.diamond_beside.proofs.fill.Goals as goal
 
 pub returns-in_default : goal.returns-in_default
@@ -16,11 +15,14 @@ returns-in_default c =
       all_after = kept _ _ (sym answer ∙ c.in_default.is);
     }
 
+pub new-requires : goal.new-requires
+new-requires c = sym (c.rate-answer.ensures.value ∙ rate_answers c.args.numbers.now) ∙ c.in-Accepted.is
+
 pub put_all-requires : goal.put_all-requires
 put_all-requires c =
     let r = c.args.numbers.now in
     let good = sym (c.rate-answer.ensures.value ∙ rate_answers r) ∙ c.in-Accepted.is in
-    (good, rw (rate_leaves r, good) at c.rate-answer.ensures.cells_after, omega arith)
+    rw c.new.ensures (rw (rate_leaves r, good) at c.rate-answer.ensures.cells_after)
 
 pub returns : goal.returns
 unfolding filled_page
@@ -29,5 +31,5 @@ returns c =
     let good = sym (c.rate-answer.ensures.value ∙ rate_answers r) ∙ c.in-Accepted.is in
     record {
       value = sym good;
-      all_after = c.put_all.ensures ∙ renewed (page_numbers r) _ good;
+      all_after = rw c.new.ensures at c.put_all.ensures ∙ renewed (page_numbers r) _ good;
     }

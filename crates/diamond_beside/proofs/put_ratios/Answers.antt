@@ -3,20 +3,27 @@ use Rattle.layout.specs.Diamond.{page_volumes}
 use Rattle.lists.proofs.Laws.{over_then}
 use Rattle.diamond_beside.specs.Beside.{volumes, rooms, ratios}
 use Rattle.diamond_beside.proofs.Laws.{volumes-length, rooms-length, ratios-length}
+use Rattle.diamond_beside.proofs.Made.{made}
 use lib.ListN.{length-append}
 use mathlib.Core.List.{◌++◌}
+use mathlib.Core.Path.{◌≡◌}
 use native.Mathlib.Omega.{arith}
+use borrow.Author.Rules.{rules}
 use Rattle.diamond_beside.proofs.put_ratios.Goals as goal
 
 pub returns : goal.returns
+unfolding volumes rooms ratios
 returns c =
-    let r = c.args.numbers.now in
+    let r = c.args.given.numbers.now in
     let d = c.args.all.now in
-    let one = rw c.volumes_of.ensures at c.put.ensures in
-    let two = rw c.rooms_of.ensures at c.put-2.ensures in
-    let three = rw c.ratios_of.ensures at c.put-3.ensures in
-    let v = volumes-length r in
-    let m = rooms-length r in
-    let both = over_then d page_volumes (volumes r) (rooms r) one two (omega (arith, v)) (omega (arith, m, c.requires.1)) in
-    over_then d page_volumes (volumes r ++ rooms r) (ratios r) both three (omega (arith, v, m, length-append (volumes r) (rooms r)))
-    (omega (arith, ratios-length r, c.requires.1))
+    let v : c.from_fn-volumes.result ≡ volumes r = made _ _ _ _ c.from_fn-volumes.ensures.items (λ k y q call. search rules) in
+    let m : c.from_fn-rooms.result ≡ rooms r = made _ _ _ _ c.from_fn-rooms.ensures.items (λ k y q call. search rules) in
+    let t : c.from_fn-ratios.result ≡ ratios r = made _ _ _ _ c.from_fn-ratios.ensures.items (λ k y q call. search rules) in
+    let one = rw v at c.put.ensures in
+    let two = rw m at c.put-2.ensures in
+    let three = rw t at c.put-3.ensures in
+    let long = volumes-length r in
+    let more = rooms-length r in
+    let both = over_then d page_volumes (volumes r) (rooms r) one two (omega (arith, long)) (omega (arith, more)) in
+    over_then d page_volumes (volumes r ++ rooms r) (ratios r) both three (omega (arith, long, more, length-append (volumes r) (rooms r)))
+    (omega (arith, ratios-length r))

@@ -7,11 +7,8 @@ use Rattle.kinds.specs.Kinds.{in_range}
 use Rattle.layout.specs.Diamond.{storages_from, storage_count}
 use Rattle.diamond_rules.specs.Record.{storage}
 use mathlib.Core.Bool.{not}
-use Prim.Native.Nat.{◌+◌, ◌-◌}
+use Prim.Native.Nat.{◌+◌}
 use Rattle.diamond_judging.proofs.check_stores.Given as goal
 
 abbrev pub invariant-loop-storage : goal.invariant-loop-storage
 invariant-loop-storage l = Searched (λ j. refuse_if (not (in_range Storage (storage l.numbers j))) Store (storages_from + j)) storage_count l.storage
-
-abbrev pub decreases-loop-storage : goal.decreases-loop-storage
-decreases-loop-storage l = storage_count - l.storage

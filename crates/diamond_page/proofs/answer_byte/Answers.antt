@@ -7,6 +7,6 @@ pub returns-then-value-eq0 : goal.returns-then-value-eq0
 unfolding no_text ascii
 returns-then-value-eq0 c = rw (eq-eqb _ _ c.if-value-eq0.true)
 
-pub returns : goal.returns
+pub returns-else-value-eq0 : goal.returns-else-value-eq0
 unfolding yes_text ascii
-returns c = rw (ne_eqb _ _ c.if-value-eq0.false)
+returns-else-value-eq0 c = rw (ne_eqb _ _ c.if-value-eq0.false)

@@ -13,7 +13,7 @@ overflow_cast-result c = omega (arith, count_most c.args.fault)
 
 pub returns-then-is_faulty : goal.returns-then-is_faulty
 returns-then-is_faulty c =
-    rw c.refusal.ensures
+    rw c.into.ensures
     (search_stops _ _ _ (omega arith) (refuses _ _ (sym c.is_faulty.ensures ∙ c.if-is_faulty.true)) refl
     c.loop-index.invariant)
 

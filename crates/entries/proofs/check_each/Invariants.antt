@@ -2,11 +2,7 @@
 use Rattle.entries.specs.Judging.{refusal_of, count_of, faulty}
 use Rattle.answers.proofs.Laws.{Searched}
 use Rattle.answers.specs.Answers.{refuse_if}
-use Prim.Native.Nat.{◌-◌}
 use Rattle.entries.proofs.check_each.Given as goal
 
 abbrev pub invariant-loop-index : goal.invariant-loop-index
 invariant-loop-index l = Searched (λ i. refuse_if (faulty l.kind l.entries l.fault i) (refusal_of l.fault) i) (count_of l.fault) l.index
-
-abbrev pub decreases-loop-index : goal.decreases-loop-index
-decreases-loop-index l = l.count - l.index

@@ -3,13 +3,13 @@ use native.Mathlib.Omega.{arith}
 use Rattle.entries.proofs.is_faulty.Goals as goal
 
 pub is_outside-requires : goal.is_outside-requires
-is_outside-requires c = omega (arith, rw c.in-Range.is at c.requires.1)
+is_outside-requires c = omega (arith, rw c.in-Range.is at c.requires)
 
 pub is_badly_shared-requires : goal.is_badly_shared-requires
-is_badly_shared-requires c = omega (arith, rw c.in-Shared.is at c.requires.1)
+is_badly_shared-requires c = omega (arith, rw c.in-Shared.is at c.requires)
 
 pub is_unserved-requires : goal.is_unserved-requires
-is_unserved-requires c = omega (arith, rw c.in-NoLane.is at c.requires.1)
+is_unserved-requires c = omega (arith, rw c.in-NoLane.is at c.requires)
 
 pub returns-in-Range : goal.returns-in-Range
 returns-in-Range c = rw c.in-Range.is c.is_outside.ensures

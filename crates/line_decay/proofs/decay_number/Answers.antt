@@ -13,18 +13,18 @@ pub returns-then-m-ge-END : goal.returns-then-m-ge-END
 unfolding decay_number
 returns-then-m-ge-END c = (rw (le-leb _ _ c.if-m-ge-END.true), search rules)
 
-pub loop-i-init : goal.loop-i-init
+pub loop-init : goal.loop-init
 unfolding faded
-loop-i-init c =
+loop-init c =
     let r = c.args.m % 7200 in
-    (search rules, omega (arith, c.series-d.ensures, (summed r (omega arith) 6).high), refl)
+    (omega (arith, c.series-d.ensures, (summed r (omega arith) 6).high), refl)
 
-pub loop-i-preserved : goal.loop-i-preserved
+pub loop-preserved : goal.loop-preserved
 unfolding faded
-loop-i-preserved c = (search rules, search rules, c.fade-d.ensures.0 ∙ rw add-one (cc))
+loop-preserved c = (search rules, c.fade-d.ensures.0 ∙ rw add-one (cc))
 
 pub returns : goal.returns
 unfolding decay_number
 returns c =
-    let e : c.loop-i.i ≡ c.args.m / 7200 = omega arith in
+    let e : c.loop.counter ≡ c.args.m / 7200 = omega arith in
     (rw (lt-leb _ _ c.if-m-ge-END.false) (cc), search rules)

@@ -1,14 +1,13 @@
-use native.Mathlib.Omega.{arith}
 use borrow.Author.Tests.{lt-ltb, le-ltb}
 use Rattle.kinds.specs.declared.Group.TheVariants.{Through}
 use Rattle.procedure.specs.Approach.{n}
 use Rattle.procedure.specs.Lines.{crossed}
 use Rattle.line_formulas.proofs.is_crossed.Goals as goal
 
-pub returns-then-s-eq0 : goal.returns-then-s-eq0
+pub returns-then-s-gt0 : goal.returns-then-s-gt0
 unfolding crossed
-returns-then-s-eq0 c = rw (le-ltb 0 (n c.args.s Through) (omega (arith, c.if-s-eq0.true)))
+returns-then-s-gt0 c = rw (lt-ltb 0 (n c.args.s Through) c.if-s-gt0.true)
 
-pub returns : goal.returns
+pub returns-else-s-gt0 : goal.returns-else-s-gt0
 unfolding crossed
-returns c = rw (lt-ltb 0 (n c.args.s Through) (omega (arith, c.if-s-eq0.false)))
+returns-else-s-gt0 c = rw (le-ltb 0 (n c.args.s Through) c.if-s-gt0.false)

@@ -3,35 +3,36 @@ use Rattle.kinds.specs.declared.Group.TheVariants.{Through}
 use Rattle.kinds.specs.declared.Kind.TheVariants.{PedestrianTime}
 use Rattle.kinds.specs.Working.{most_of}
 use Rattle.units.specs.Unit.{whole}
+use Rattle.line_bounds.proofs.Order.{larger}
 use Rattle.line_bounds.proofs.Times.{walkers_share, walkers_room}
 use Rattle.procedure.specs.Lines.{weighted_of}
 use native.Mathlib.Omega.{arith}
 use Prim.Native.Nat.{◌*◌, ◌-◌, ◌≤◌}
-use Rattle.line_formulas.proofs.weigh.Goals.{After-divide_up-walking, After-larger-b}
+use Rattle.line_formulas.proofs.weigh.Goals.{After-divide_up-walking, After-max-b}
 use Rattle.line_formulas.proofs.weigh.Goals as goal
 
 -- what the walkers take beyond the cars
 room :
-    (d : After-larger-b)
-    → (d.larger-b.result.0 - d.larger-a.result.0) * d.args.frequency ≤ most_of PedestrianTime * whole
+    (d : After-max-b)
+    → (d.max-b.result.0 - d.max-a.result.0) * d.args.frequency ≤ most_of PedestrianTime * whole
 room d =
     let crossing = d.requires.0.crossing.most in
-    walkers_room (d.larger-b.result.0 - d.larger-a.result.0) d.args.frequency (omega (arith, crossing)) d.requires.1
+    walkers_room (d.max-b.result.0 - d.max-a.result.0) d.args.frequency (omega (arith, crossing, larger d.max-a.result d.args.s.crossing.0 d.max-b.ensures)) d.requires.1
 
-share : (d : After-divide_up-walking) → d.divide_up-walking.result ≤ d.larger-b.result.0 - d.larger-a.result.0
+share : (d : After-divide_up-walking) → d.divide_up-walking.result ≤ d.max-b.result.0 - d.max-a.result.0
 share d =
-    rw d.divide_up-walking.ensures (walkers_share (d.larger-b.result.0 - d.larger-a.result.0) d.args.frequency d.requires.1)
+    rw d.divide_up-walking.ensures (walkers_share (d.max-b.result.0 - d.max-a.result.0) d.args.frequency d.requires.1)
 
 pub overflow_mul-b : goal.overflow_mul-b
-overflow_mul-b c = omega (arith, room (goal.at.overflow_mul-b c).After-larger-b)
+overflow_mul-b c = omega (arith, room (goal.at.overflow_mul-b c).After-max-b)
 
 pub divide_up-walking-requires : goal.divide_up-walking-requires
-divide_up-walking-requires c = omega (arith, room (goal.at.divide_up-walking-requires c).After-larger-b)
+divide_up-walking-requires c = omega (arith, room (goal.at.divide_up-walking-requires c).After-max-b)
 
 pub overflow_add-result : goal.overflow_add-result
 overflow_add-result c =
     let through = c.requires.0.group Through in
-    omega (arith, c.larger-a.ensures, through.lost.most, through.green.most, c.requires.2)
+    omega (arith, larger c.args.s.through.green.0 c.args.reference c.max-a.ensures, through.lost.most, through.green.most, c.requires.2)
 
 pub overflow_cast-result : goal.overflow_cast-result
 overflow_cast-result c = omega (arith, share (goal.at.overflow_cast-result c).After-divide_up-walking)
@@ -40,9 +41,9 @@ pub overflow_add-result-2 : goal.overflow_add-result-2
 overflow_add-result-2 c =
     let through = c.requires.0.group Through in
     let crossing = c.requires.0.crossing.most in
-    omega (arith, share (goal.at.overflow_add-result-2 c).After-divide_up-walking, c.larger-b.ensures, c.larger-a.ensures, through.lost.most, through.green.most, crossing, c.requires.2)
+    omega (arith, share (goal.at.overflow_add-result-2 c).After-divide_up-walking, larger c.max-a.result c.args.s.crossing.0 c.max-b.ensures, larger c.args.s.through.green.0 c.args.reference c.max-a.ensures, through.lost.most, through.green.most, crossing, c.requires.2)
 
 pub returns : goal.returns
 unfolding weighted_of
 returns c =
-    rw (← c.larger-a.ensures, ← c.larger-b.ensures, ← c.divide_up-walking.ensures)
+    rw (← larger c.args.s.through.green.0 c.args.reference c.max-a.ensures, ← larger c.max-a.result c.args.s.crossing.0 c.max-b.ensures, ← c.divide_up-walking.ensures)

@@ -6,6 +6,6 @@ pub returns-then-s-lt60 : goal.returns-then-s-lt60
 unfolding allowed_a
 returns-then-s-lt60 c = rw (lt-ltb _ _ c.if-s-lt60.true)
 
-pub returns : goal.returns
+pub returns-else-s-lt60 : goal.returns-else-s-lt60
 unfolding allowed_a
-returns c = rw (le-ltb _ _ c.if-s-lt60.false) c.is_single.ensures
+returns-else-s-lt60 c = rw (le-ltb _ _ c.if-s-lt60.false) c.is_single.ensures

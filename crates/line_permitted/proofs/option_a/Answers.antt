@@ -1,12 +1,15 @@
 -- Not allowed, it is BLANK; else the T and the L value by their functions, whose needs are laws of the approach.
 use mathlib.Core.Bool.{true, false}
-use mathlib.Core.Path.{◌≡◌}
+use mathlib.Core.Path.{◌≡◌, refl, ap}
 use borrow.Author.Tests.{not-true, not-false}
 use Rattle.kinds.specs.declared.Group.TheVariants.{Left, Through}
 use Rattle.procedure.specs.Lines.{allowed_a, option_a, left_a}
 use Rattle.line_bounds.proofs.Flows.{group_serving}
 use Rattle.line_bounds.proofs.Times.{group_passes, interference_most}
 use Rattle.line_bounds.proofs.LeftLane.{carried, share_within}
+use Rattle.std.specs.Prelude.{Some}
+use Rattle.line_permitted.proofs.Laws.{time_is}
+use Rattle.line_bounds.proofs.Order.{larger}
 use Rattle.line_permitted.proofs.option_a.Goals as goal
 
 pub returns-then-not-m : goal.returns-then-not-m
@@ -33,4 +36,6 @@ pub returns : goal.returns
 unfolding option_a left_a
 returns c =
     let allowed : allowed_a c.args.s c.args.o ≡ true = rw c.requires.2 at (not-false c.args.m.alloweda c.if-not-m.false) in
-    rw (allowed, c.larger.ensures, c.left_option_a-left.ensures, c.option_a_of-through.ensures, c.requires.1, c.requires.2, c.requires.3)
+    let time : c.max.result.0 ≡ option_a c.args.s c.args.o c.args.cycle.0 =
+    rw (larger c.option_a_of-through.result c.left_option_a-left.result c.max.ensures, c.left_option_a-left.ensures, c.option_a_of-through.ensures, c.requires.1, c.requires.2, c.requires.3) refl in
+    rw allowed (ap Some (time_is time))

@@ -4,8 +4,11 @@ use Rattle.line_bounds.specs.Bounds.{most_mixed_served}
 use Rattle.line_bounds.proofs.Times.{time_at_most}
 use Rattle.line_bounds.proofs.Permitted.{time_least}
 use borrow.Author.Tests.{eq-eqb, ne_eqb}
+use Prim.Native.Nat.{◌+◌}
+use Rattle.line_stages.specs.Stages.{ms}
 use native.Mathlib.Nat.{mul-le-mul}
 use native.Mathlib.Omega.{arith}
+use Rattle.line_bounds.proofs.Order.{larger}
 use Rattle.line_permitted.proofs.option_a_of.Goals as goal
 
 pub returns-then-volume-eq0 : goal.returns-then-volume-eq0
@@ -35,4 +38,4 @@ returns-then-volume-mixed c =
 pub returns : goal.returns
 unfolding option_a_of
 returns c =
-    rw (ne_eqb _ _ c.if-volume-eq0.false, c.larger.ensures, c.time_for-2.ensures, c.time_for.ensures)
+    rw (ne_eqb _ _ c.if-volume-eq0.false, larger (ms (c.time_for.result.0 + c.args.held.0)) c.time_for-2.result c.max.ensures, c.time_for-2.ensures, c.time_for.ensures)

@@ -3,7 +3,10 @@ use Rattle.kinds.specs.declared.Group.TheVariants.{Through}
 use Rattle.procedure.specs.Lines.{option_b}
 use Rattle.line_bounds.proofs.Times.{straight_passes, lefts_pass, interference_most}
 use Rattle.line_bounds.proofs.Permitted.{s_b_most}
-use mathlib.Core.Path.{refl}
+use mathlib.Core.Path.{◌≡◌, refl, ap}
+use Rattle.std.specs.Prelude.{Some}
+use Rattle.line_permitted.proofs.Laws.{time_is}
+use Rattle.line_bounds.proofs.Order.{larger}
 use Rattle.line_permitted.proofs.option_b.Goals as goal
 
 pub returns-then-not-allowed : goal.returns-then-not-allowed
@@ -23,11 +26,6 @@ left_b-requires c =
 pub returns : goal.returns
 unfolding option_b
 returns c =
-    rw (
-      c.if-not-allowed.false,
-      c.larger.ensures,
-      c.left_b.ensures,
-      c.through_b-through.ensures,
-      c.flow_b.ensures,
-      c.requires.1,
-    )
+    let time : c.max.result.0 ≡ option_b c.args.s c.args.cycle.0 =
+    rw (larger c.through_b-through.result c.left_b.result c.max.ensures, c.left_b.ensures, c.through_b-through.ensures, c.flow_b.ensures, c.requires.1) refl in
+    rw c.if-not-allowed.false (ap Some (time_is time))

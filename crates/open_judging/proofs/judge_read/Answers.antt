@@ -31,4 +31,4 @@ block-requires c =
 pub returns : goal.returns
 unfolding read_answer
 returns c =
-    judged_last _ (may (goal.at.returns c).After-in_order-may) c.in-Accepted.is (c.judge.ensures ∙ ap judged c.block.ensures)
+    judged_last _ (may (goal.at.returns c).After-in_order-may) c.in-Accepted.is (c.judge.ensures ∙ ap judged c.block.ensures.0)

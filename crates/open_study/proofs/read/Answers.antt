@@ -21,7 +21,7 @@ block-requires c =
 pub write_fresh-requires : goal.write_fresh-requires
 write_fresh-requires c =
     let r = reads _ _ _ _ (sym c.judge_read-judged.ensures ∙ c.in-Accepted.is) in
-    (rw c.block.ensures r.fine, r.cells)
+    (rw c.block.ensures.0 r.fine, r.cells)
 
 pub returns : goal.returns
 unfolding read_sheet
@@ -29,5 +29,5 @@ returns c =
     let answer = sym c.judge_read-judged.ensures ∙ c.in-Accepted.is in
     record {
       value = sym answer;
-      sheet_after = rw (c.write_fresh.ensures, c.block.ensures) (renewed _ _ answer);
+      sheet_after = rw (c.write_fresh.ensures, c.block.ensures.0) (renewed _ _ answer);
     }

@@ -11,18 +11,14 @@ use Rattle.page.proofs.changes.Goals as goal
 
 pub loop-cell-init : goal.loop-cell-init
 unfolding change_rows
-loop-cell-init c = (omega arith, omega (arith, c.put_bytes-at.ensures.next), λ list long head. head)
+loop-cell-init c = (omega (arith, c.put_bytes-at.ensures.next), λ list long head. head)
 
-pub put_change-requires : goal.put_change-requires
-put_change-requires c =
+pub put_row-requires : goal.put_row-requires
+put_row-requires c =
     omega (arith, (few c.args.kind).cells)
 
 pub overflow_add-at : goal.overflow_add-at
 overflow_add-at c =
-    omega (arith, (few c.args.kind).cells)
-
-pub overflow_add-cell : goal.overflow_add-cell
-overflow_add-cell c =
     omega (arith, (few c.args.kind).cells)
 
 pub loop-cell-preserved : goal.loop-cell-preserved
@@ -33,15 +29,13 @@ loop-cell-preserved c =
     let room = (few c.args.kind).cells in
     elim c.if-is_listed.branch [
       | then-is_listed w ↦ (
-        omega arith,
         omega (arith, w.at-is),
         λ list long head. rw w.at-is
-            (row_listed _ _ _ n (omega arith) long (is ∙ w.if-is_listed.true) (loop.invariant.2 list long head) (w.out-is ∙ w.put_change.ensures)),
+            (row_listed _ _ _ n (omega arith) long (is ∙ w.if-is_listed.true) (loop.invariant.1 list long head) (w.out-is ∙ w.put_row.ensures)),
       )
       | else-is_listed w ↦ (
-        omega arith,
         omega (arith, w.at-is),
-        λ list long head. rw (w.out-is, w.at-is) (row_unlisted _ _ _ n (is ∙ w.if-is_listed.false) (loop.invariant.2 list long head)),
+        λ list long head. rw (w.out-is, w.at-is) (row_unlisted _ _ _ n (is ∙ w.if-is_listed.false) (loop.invariant.1 list long head)),
       )
     ]
 
@@ -50,7 +44,7 @@ unfolding change_head ascii
 returns c =
     let args = c.args in
     let end : c.loop-cell.cell ≡ sheet_count args.kind = omega arith in
-    let rows = rw end at (c.loop-cell.invariant.2 args.out.now (omega arith) c.put_bytes-at.ensures) in
+    let rows = rw end at (c.loop-cell.invariant.1 args.out.now (omega arith) c.put_bytes-at.ensures) in
     record {
       out_after = rows.is;
       value = omega (arith, rows.next);

@@ -5,15 +5,15 @@ use native.Mathlib.Omega.{arith}
 use Rattle.page_fields.specs.Fields.{dropped}
 use Rattle.page_fields.proofs.dropped.Goals as goal
 
-pub loop-i-init : goal.loop-i-init
+pub loop-init : goal.loop-init
 unfolding dropped
-loop-i-init c = (omega arith, refl)
+loop-init c = refl
 
-pub loop-i-preserved : goal.loop-i-preserved
+pub loop-preserved : goal.loop-preserved
 unfolding dropped
-loop-i-preserved c = (omega arith, rw (add-one c.loop-i.i, c.loop-i.invariant.1))
+loop-preserved c = rw (add-one c.loop.counter, c.loop.invariant)
 
 pub returns : goal.returns
 returns c =
-    let end : c.loop-i.i ≡ c.args.digits = omega arith in
-    rw end at c.loop-i.invariant.1
+    let end : c.loop.counter ≡ c.args.digits = omega arith in
+    rw end at c.loop.invariant

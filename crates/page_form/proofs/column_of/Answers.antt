@@ -1,4 +1,4 @@
 use Rattle.page_form.proofs.column_of.Goals as goal
 
 pub returns : goal.returns
-returns c = rw (c.past.ensures.0, c.of-section.ensures.0)
+returns c = rw (c.saturating_sub.ensures, c.of-section.ensures.0)

@@ -1,6 +1,6 @@
 -- The loop's invariant: the entries passed have their starting values, the others are as they were.
 use mathlib.Core.Path.{◌≡◌, refl, ◌∙◌}
-use lib.ListN.{length, length-set}
+use lib.ListN.{length}
 use native.Mathlib.Omega.{arith}
 use Rattle.lists.specs.Lists.{table}
 use Rattle.lists.proofs.Laws.{filled_more, filled_all}
@@ -9,17 +9,13 @@ use Rattle.point_start.proofs.put_start.Goals as goal
 
 pub loop-i-init : goal.loop-i-init
 unfolding table
-loop-i-init c = (omega arith, refl, refl)
+loop-i-init c = refl
 
 pub loop-i-preserved : goal.loop-i-preserved
-loop-i-preserved c = (
-  omega arith,
-  simp length-set c.loop-i.invariant.1,
-  rw (c.start_at.ensures, c.loop-i.invariant.2) (filled_more _ _ c.loop-i.i (omega arith)),
-)
+loop-i-preserved c = rw (c.start_at.ensures, c.loop-i.invariant) (filled_more _ _ c.loop-i.i (omega arith))
 
 pub returns : goal.returns
 unfolding start_entries
 returns c =
     let end : c.loop-i.i ≡ length c.args.entries.now = omega (arith, c.requires) in
-    c.loop-i.invariant.2 ∙ rw (end, filled_all, c.requires)
+    c.loop-i.invariant ∙ rw (end, filled_all, c.requires)

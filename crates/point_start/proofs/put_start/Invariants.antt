@@ -1,15 +1,10 @@
 -- The loop's invariant: the entries passed have their starting values, the others are as they were.
-use Prim.Native.Nat.{◌≤◌, ◌-◌}
 use mathlib.Core.Path.{◌≡◌}
 use mathlib.Core.List.{◌++◌}
-use lib.ListN.{length, drop}
-use Rattle.layout.specs.Entries.{entry_count}
+use lib.ListN.{drop}
 use Rattle.lists.specs.Lists.{table}
 use Rattle.point_start.specs.Start.{start_at}
 use Rattle.point_start.proofs.put_start.Given as goal
 
 abbrev pub invariant-loop-i : goal.invariant-loop-i
-invariant-loop-i l = (l.i ≤ entry_count) × (length l.entries ≡ length l.initial.entries) × (l.entries ≡ table start_at l.i ++ drop l.i l.initial.entries)
-
-abbrev pub decreases-loop-i : goal.decreases-loop-i
-decreases-loop-i l = entry_count - l.i
+invariant-loop-i l = l.entries ≡ table start_at l.i ++ drop l.i l.initial.entries

@@ -14,7 +14,7 @@ pub returns-then-is_old : goal.returns-then-is_old
 unfolding amend_study
 returns-then-is_old c =
     let before : is_old c.args.file.now ≡ true = sym c.is_old.ensures ∙ c.if-is_old.true in
-    rw (sym c.is_kept.ensures ∙ c.if-is_kept.true, before, c.only_said.ensures)
+    rw (sym c.is_kept.ensures ∙ c.if-is_kept.true, before, c.said.ensures)
     record {
       left = left_saying (rw c.word-name.ensures at c.say_old.ensures);
       placed = placed_nothing _ 0;

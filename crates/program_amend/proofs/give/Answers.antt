@@ -7,7 +7,7 @@ use Rattle.program_amend.proofs.give.Goals as goal
 pub returns-then-not-given : goal.returns-then-not-given
 returns-then-not-given c =
     let none = not-true c.args.given.made c.if-not-given.true in
-    rw (none, c.only_said.ensures) record {
+    rw (none, c.said.ensures) record {
       placed = placed_nothing _ 0;
       placed_2 = placed_nothing _ 0;
       says_value = refl;

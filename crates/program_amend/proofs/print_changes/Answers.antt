@@ -3,12 +3,8 @@ use Rattle.layout.specs.Sheet.{sheet_count}
 use mathlib.Core.Path.{sym, ap}
 use Rattle.program_amend.proofs.print_changes.Goals as goal
 
-pub print_from-requires : goal.print_from-requires
-print_from-requires c =
-    let sized = sym (ap sheet_count c.in-Junction.is) in
-    (sized, sized, c.requires)
+pub print_sheets-requires : goal.print_sheets-requires
+print_sheets-requires c = (sym (ap sheet_count c.in-Junction.is), c.requires)
 
-pub print_from-requires-in-Point : goal.print_from-requires-in-Point
-print_from-requires-in-Point c =
-    let sized = sym (ap sheet_count c.in-Point.is) in
-    (sized, sized, c.requires)
+pub print_sheets-requires-in-Point : goal.print_sheets-requires-in-Point
+print_sheets-requires-in-Point c = (sym (ap sheet_count c.in-Point.is), c.requires)

@@ -9,7 +9,7 @@ pub returns-in-Help : goal.returns-in-Help
 unfolding amend_run
 returns-in-Help c =
     let is = sym c.wish_of-wish.ensures ∙ c.in-Help.is in
-    rw (rw c.word.ensures at is, c.only_printed.ensures) record {
+    rw (rw c.word.ensures at is, c.printed.ensures) record {
       left = left_printing c.put_use.ensures;
       placed = placed_nothing _ 0;
     }
@@ -18,7 +18,7 @@ pub returns-in-Version : goal.returns-in-Version
 unfolding amend_run
 returns-in-Version c =
     let is = sym c.wish_of-wish.ensures ∙ c.in-Version.is in
-    rw (rw c.word.ensures at is, c.only_printed-in-Version.ensures) record {
+    rw (rw c.word.ensures at is, c.printed-in-Version.ensures) record {
       left = left_printing c.put_version.ensures;
       placed = placed_nothing _ 0;
     }

@@ -8,7 +8,7 @@ use Rattle.program_amend.proofs.work.Goals as goal
 pub returns-then-not-takes : goal.returns-then-not-takes
 returns-then-not-takes c =
     let wrong = sym c.takes.ensures ∙ c.if-not-takes.true in
-    rw (work_use _ _ _ wrong, c.only_said.ensures) record {
+    rw (work_use _ _ _ wrong, c.said.ensures) record {
       left = left_saying c.put_use.ensures;
       placed = placed_nothing _ 0;
     }
@@ -16,7 +16,7 @@ returns-then-not-takes c =
 pub returns-in_default : goal.returns-in_default
 returns-in_default c =
     let right = sym c.takes.ensures ∙ c.if-not-takes.false in
-    rw (work_file _ _ _ right, c.in_default.is, c.only_said-in_default.ensures)
+    rw (work_file _ _ _ right, c.in_default.is, c.said-in_default.ensures)
     record {
       left = left_saying (rw c.word-name.ensures at c.say_unread.ensures);
       placed = placed_nothing _ 0;
@@ -29,4 +29,4 @@ amend_study-requires c =
 pub returns : goal.returns
 returns c =
     let right = sym c.takes.ensures ∙ c.if-not-takes.false in
-    rw (work_file _ _ _ right, c.in-Read.is) (rw c.front-file.ensures.0 at c.amend_study.ensures)
+    rw (work_file _ _ _ right, c.in-Some.is) (rw c.front-file.ensures.0 at c.amend_study.ensures)

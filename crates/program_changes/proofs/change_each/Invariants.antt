@@ -1,5 +1,5 @@
 -- The loop's invariant: the changes passed came to what the definition says of them, and each said at most a sentence.
-use Prim.Native.Nat.{◌*◌, ◌-◌, ◌≤◌}
+use Prim.Native.Nat.{◌*◌, ◌≤◌}
 use mathlib.Core.Path.{◌≡◌}
 use lib.ListN.{length}
 use Rattle.program_changes.specs.Changes.{changes_to}
@@ -8,8 +8,5 @@ use Rattle.program_changes.proofs.change_each.Given as goal
 
 abbrev pub invariant-loop-n : goal.invariant-loop-n
 invariant-loop-n l =
-    (l.n ≤ l.changes) × (l.so.says ≤ sentence_most * l.n) × (length l.said ≡ said_most)
+    (l.so.says ≤ sentence_most * l.n) × (length l.said ≡ said_most)
     × Came (changes_to l.worksheet l.several l.words l.initial.entries l.n) l.initial.said l.entries l.said l.so
-
-abbrev pub decreases-loop-n : goal.decreases-loop-n
-decreases-loop-n l = l.changes - l.n

@@ -12,7 +12,7 @@ pub returns-in_default : goal.returns-in_default
 unfolding convert_of
 returns-in_default c =
     let bad = sym c.check-answer.ensures ∙ c.in_default.is in
-    rw (bad, c.only_said.ensures) record {
+    rw (bad, c.said.ensures) record {
       left = left_saying (rw c.in_default.is at c.say_answer_of.ensures);
       placed = placed_nothing _ 0;
     }
@@ -22,7 +22,7 @@ returns-then-sites-gt-MOST_SITES c =
     let good = sym c.check-answer.ensures ∙ c.in-Accepted.is in
     let args = c.args in
     let is = many_said args.name.now args.file.now good (omega (arith, c.count-sites.ensures.0, c.if-sites-gt-MOST_SITES.true)) in
-    rw (is, c.only_said-then-sites-gt-MOST_SITES.ensures) record {
+    rw (is, c.said-then-sites-gt-MOST_SITES.ensures) record {
       left = left_saying c.say_many.ensures;
       placed = placed_nothing _ 0;
     }
@@ -37,7 +37,7 @@ returns c =
     let args = c.args in
     let is = few_written args.name.now args.file.now good (omega (arith, c.count-sites.ensures.0, c.if-sites-gt-MOST_SITES.false)) in
     let written = c.convert-writes.ensures in
-    rw is record {
+    rw (is, c.written.ensures) record {
       left = record { prints = placed_nothing [] 0; writes = omega (arith, written.next); says = placed_nothing _ 0 };
       placed = written;
     }

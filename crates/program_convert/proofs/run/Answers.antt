@@ -7,7 +7,7 @@ use Rattle.program_convert.proofs.run.Goals as goal
 pub returns-in_default : goal.returns-in_default
 unfolding convert_run
 returns-in_default c =
-    rw (c.in_default.is, c.only_said.ensures) record {
+    rw (c.in_default.is, c.said.ensures) record {
       left = left_saying (rw c.word-name.ensures at c.say.ensures);
       placed = placed_nothing _ 0;
     }
@@ -15,4 +15,4 @@ returns-in_default c =
 pub returns : goal.returns
 unfolding convert_run
 returns c =
-    rw c.in-Read.is (rw (c.front.ensures.0, c.word-name.ensures) at c.convert_file.ensures)
+    rw c.in-Some.is (rw (c.front.ensures.0, c.word-name.ensures) at c.convert_file.ensures)

@@ -1,8 +1,7 @@
 -- `program_diamond::judge`. An acceptable record fills the list; of one that is refused, something is said.
 use Rattle.diamond_beside.specs.Beside.{filled_page}
-use Rattle.program_record.proofs.Laws.{made_none}
 use Rattle.program_diamond.proofs.Laws.{refusal_long}
-use Rattle.text.proofs.Laws.{placed_nothing}
+use Rattle.program_outcome.proofs.Laws.{stops, goes_on}
 use mathlib.Core.Path.{sym, ◌∙◌}
 use Rattle.program_diamond.proofs.judge.Goals as goal
 
@@ -11,9 +10,9 @@ unfolding filled_page
 returns-in-Accepted c =
     let fill = c.fill-answer.ensures in
     let good = sym fill.value ∙ c.in-Accepted.is in
-    record { says = rw good (placed_nothing _ 0); is = λ none. rw good at fill.all_after }
+    rw good (goes_on (rw good at fill.all_after))
 
 pub returns-in-Refused : goal.returns-in-Refused
 returns-in-Refused c =
     let bad = sym c.fill-answer.ensures.value ∙ c.in-Refused.is in
-    rw bad (made_none (refusal_long _ _ _) c.say_refusal.ensures)
+    rw bad (stops (refusal_long _ _ _) c.say_refusal.ensures)

@@ -8,13 +8,13 @@ pub returns-in-Help : goal.returns-in-Help
 unfolding diamond_run
 returns-in-Help c =
     let is = rw c.word.ensures at (sym c.wish_of.ensures ∙ c.in-Help.is) in
-    rw (is, c.only_printed.ensures) (left_printing c.put_use.ensures)
+    rw (is, c.printed.ensures) (left_printing c.put_use.ensures)
 
 pub returns-in-Version : goal.returns-in-Version
 unfolding diamond_run
 returns-in-Version c =
     let is = rw c.word.ensures at (sym c.wish_of.ensures ∙ c.in-Version.is) in
-    rw (is, c.only_printed-in-Version.ensures) (left_printing c.put_version.ensures)
+    rw (is, c.printed-in-Version.ensures) (left_printing c.put_version.ensures)
 
 pub returns-in-Work : goal.returns-in-Work
 unfolding diamond_run

@@ -5,9 +5,9 @@ use Rattle.program_diamond.proofs.work.Goals as goal
 pub returns-then-not-takes : goal.returns-then-not-takes
 returns-then-not-takes c =
     let wrong = sym c.takes.ensures ∙ c.if-not-takes.true in
-    rw (wrong, c.only_said.ensures) (left_saying c.put_use.ensures)
+    rw (wrong, c.said.ensures) (left_saying c.put_use.ensures)
 
 pub returns : goal.returns
 returns c =
     let right = sym c.takes.ensures ∙ c.if-not-takes.false in
-    rw right c.give.ensures
+    rw (right, c.of.ensures) c.give.ensures

@@ -5,7 +5,7 @@ use Rattle.text.specs.Text.{Placed}
 use lib.ListN.{length, get_or}
 use mathlib.Core.Path.{◌≡◌}
 use mathlib.Core.List.{List}
-use Prim.Native.Nat.{ℕ, ◌+◌, ◌≤◌, ◌-◌}
+use Prim.Native.Nat.{ℕ, ◌+◌}
 use Rattle.program_heading.proofs.put_shown.Given as goal
 
 abbrev pub byte_of : List ℕ → ℕ → ℕ
@@ -13,7 +13,4 @@ byte_of name i = shown_byte (get_or name i 0)
 
 abbrev pub invariant-loop-i : goal.invariant-loop-i
 invariant-loop-i l =
-    (l.i ≤ length l.name) × (length l.out ≡ length l.initial.out) × Placed l.initial.out l.at (table (byte_of l.name) l.i) l.out (l.at + l.i)
-
-abbrev pub decreases-loop-i : goal.decreases-loop-i
-decreases-loop-i l = length l.name - l.i
+    (length l.out ≡ length l.initial.out) × Placed l.initial.out l.at (table (byte_of l.name) l.i) l.out (l.at + l.i)

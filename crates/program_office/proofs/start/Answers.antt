@@ -1,44 +1,36 @@
 -- `program_office::start`. A case for each thing that can be found.
 use Rattle.program_office.specs.Run.{start_run}
+use Rattle.program_target.proofs.Laws.{found_there}
 use Rattle.program_outcome.proofs.Laws.{left_saying}
 use Rattle.text.specs.Text.{ascii}
 use Rattle.text.proofs.Laws.{placed_nothing}
 use native.Mathlib.Omega.{arith}
 use Rattle.program_office.proofs.start.Goals as goal
 
-pub returns-in-Absent : goal.returns-in-Absent
+pub returns-in-Ok-None : goal.returns-in-Ok-None
 unfolding start_run
-returns-in-Absent c =
-    let file = c.put_empty-writes.ensures in
-    rw c.in-Absent.is
+returns-in-Ok-None c =
+    let file = c.put_empty.ensures in
+    rw (found_there c.args.found c.in-Ok-None.is (rw c.in-Ok-None.is at c.in-Ok-None.field-0-is), c.written.ensures)
     record {
       left = record { prints = placed_nothing _ 0; writes = omega (arith, file.next); says = placed_nothing _ 0 };
       placed = file;
     }
 
-pub returns-in-Bytes : goal.returns-in-Bytes
+pub returns-in-Ok-Some : goal.returns-in-Ok-Some
 unfolding start_run ascii
-returns-in-Bytes c =
-    rw (c.in-Bytes.is, c.only_said.ensures)
+returns-in-Ok-Some c =
+    rw (found_there c.args.found c.in-Ok-Some.is (rw c.in-Ok-Some.is at c.in-Ok-Some.field-0-is), c.said.ensures)
     record {
       left = left_saying (rw c.word-name.ensures at c.put_named.ensures);
       placed = placed_nothing _ 0;
     }
 
-pub returns-in-Link : goal.returns-in-Link
+pub returns-in-Err : goal.returns-in-Err
 unfolding start_run
-returns-in-Link c =
-    rw (c.in-Link.is, c.only_said-in-Link.ensures)
+returns-in-Err c =
+    rw (c.in-Err.is, c.said-in-Err.ensures)
     record {
       left = left_saying (rw c.word-name.ensures at c.say.ensures);
-      placed = placed_nothing _ 0;
-    }
-
-pub returns-in-Closed : goal.returns-in-Closed
-unfolding start_run
-returns-in-Closed c =
-    rw (c.in-Closed.is, c.only_said-in-Closed.ensures)
-    record {
-      left = left_saying (rw c.word-name.ensures at c.say-in-Closed.ensures);
       placed = placed_nothing _ 0;
     }

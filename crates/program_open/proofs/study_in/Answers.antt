@@ -1,24 +1,15 @@
--- `program_open::study_in`. Where something is said, no study is taken; where nothing is, an open study stands there.
-use Rattle.program_open.specs.Opening.{study_in}
-use Rattle.program_open.proofs.Laws.{stands_open}
-use Rattle.program_record.proofs.Laws.{no_bytes}
-use native.Mathlib.Omega.{arith}
-use mathlib.Core.Path.{◌≡◌}
+-- `program_open::study_in`. Of the office's word something is said, or else the study is taken.
+use Rattle.std.proofs.lemmas.Result.{err_from_is_err_and}
+use Rattle.program_open.specs.Opening.{open_says}
+use Rattle.program_record.proofs.Laws.{else_stops, else_goes_on}
 use Rattle.program_open.proofs.study_in.Goals as goal
 
-pub returns-then-says-ne0 : goal.returns-then-says-ne0
-returns-then-says-ne0 c =
-    record { says = rw c.no_study.ensures c.judge-says.ensures; is = λ none. absurd (omega arith) }
-
-pub take_study-requires : goal.take_study-requires
-take_study-requires c =
-    rw c.bytes_in.ensures (stands_open _ _ _ (no_bytes c.judge-says.ensures (omega arith)))
+pub returns-in_err-judge_office : goal.returns-in_err-judge_office
+unfolding open_says
+returns-in_err-judge_office c =
+    let p = err_from_is_err_and c.from_residual.result c.from_residual.ensures.1 in
+    rw (p.1, p.2) (else_stops _ _ c.in_err-judge_office.ensures)
 
 pub returns : goal.returns
-unfolding study_in
-returns c =
-    let none : c.judge-says.result ≡ 0 = omega arith in
-    record {
-      says = rw c.take_study.ensures.0 (rw none at c.judge-says.ensures);
-      is = λ quiet. rw c.bytes_in.ensures at c.take_study.ensures.1;
-    }
+unfolding open_says
+returns c = else_goes_on _ _ c.in_ok-judge_office.ensures (rw c.word.ensures at c.take_source.ensures)

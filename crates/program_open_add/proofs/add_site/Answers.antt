@@ -5,21 +5,14 @@ use Rattle.program_open.proofs.Laws.{gives_refused}
 use Rattle.text.proofs.Laws.{placed_nothing}
 use mathlib.Core.Path.{sym, ◌∙◌}
 use native.Mathlib.Omega.{arith}
-use borrow.Author.Rules.{rules}
 use Rattle.program_open_add.proofs.add_site.Goals as goal
-
-pub slice_bounds-add-end : goal.slice_bounds-add-end
-slice_bounds-add-end c = search rules
-
-pub slice_bounds-add-end-2 : goal.slice_bounds-add-end-2
-slice_bounds-add-end-2 c = search rules
 
 pub returns-in_default : goal.returns-in_default
 unfolding add_site
 returns-in_default c =
     let both = gives_refused _ _ c.in_default.is c.say_answer_of.ensures in record {
-      left = rw (← c.office_in-office.ensures, ← c.add-answer.ensures.value, ← c.word-name.ensures, c.only_said.ensures) both.0;
-      placed = rw (← c.office_in-office.ensures, ← c.add-answer.ensures.value, ← c.word-name.ensures, c.only_said.ensures) both.1;
+      left = rw (← c.office_in.ensures, ← c.add-answer.ensures.value, ← c.word-name.ensures) both.0;
+      placed = rw (← c.office_in.ensures, ← c.add-answer.ensures.value, ← c.word-name.ensures) both.1;
     }
 
 pub put_place-prints-requires : goal.put_place-prints-requires
@@ -29,7 +22,7 @@ pub returns : goal.returns
 unfolding add_site
 returns c =
     let accepted = sym c.add-answer.ensures.value ∙ c.in-Accepted.is in
-    rw (← c.office_in-office.ensures, accepted, ← c.add-answer.ensures.blocks_after, ← c.add-answer.ensures.place_after) record {
+    rw (← c.office_in.ensures, accepted, ← c.add-answer.ensures.blocks_after, ← c.add-answer.ensures.place_after) record {
       left = record { prints = c.put_place-prints.ensures; writes = omega (arith, c.write_study-writes.ensures.next); says = placed_nothing _ 0 };
       placed = c.write_study-writes.ensures;
     }

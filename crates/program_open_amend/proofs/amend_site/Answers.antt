@@ -5,21 +5,14 @@ use Rattle.program_open.proofs.Laws.{gives_refused}
 use Rattle.text.proofs.Laws.{placed_nothing}
 use mathlib.Core.Path.{sym, ◌∙◌}
 use native.Mathlib.Omega.{arith}
-use borrow.Author.Rules.{rules}
 use Rattle.program_open_amend.proofs.amend_site.Goals as goal
-
-pub slice_bounds-amend-end : goal.slice_bounds-amend-end
-slice_bounds-amend-end c = search rules
-
-pub slice_bounds-amend-end-2 : goal.slice_bounds-amend-end-2
-slice_bounds-amend-end-2 c = search rules
 
 pub returns-in_default : goal.returns-in_default
 unfolding amend_site
 returns-in_default c =
     let both = gives_refused _ _ c.in_default.is c.say_answer_of.ensures in record {
-      left = rw (← c.office_in-office.ensures, ← c.site_in-site.ensures, ← c.amend-answer.ensures.value, ← c.word-word.ensures, c.only_said.ensures) both.0;
-      placed = rw (← c.office_in-office.ensures, ← c.site_in-site.ensures, ← c.amend-answer.ensures.value, ← c.word-word.ensures, c.only_said.ensures) both.1;
+      left = rw (← c.office_in-office.ensures, ← c.site_in-site.ensures, ← c.amend-answer.ensures.value, ← c.word-word.ensures) both.0;
+      placed = rw (← c.office_in-office.ensures, ← c.site_in-site.ensures, ← c.amend-answer.ensures.value, ← c.word-word.ensures) both.1;
     }
 
 pub returns : goal.returns

@@ -8,7 +8,7 @@ use Rattle.program_open_read.proofs.read_site.Goals as goal
 pub returns-in_default : goal.returns-in_default
 unfolding read_site
 returns-in_default c =
-    rw (← c.read_site-answer.ensures.value, ← c.word-word.ensures, c.only_said.ensures)
+    rw (← c.read_site-answer.ensures.value, ← c.word-word.ensures)
     (left_refused _ _ c.in_default.is c.say_answer_of.ensures)
 
 pub print_sheet-requires : goal.print_sheet-requires

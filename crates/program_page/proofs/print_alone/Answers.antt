@@ -8,7 +8,7 @@ pub returns-in-Refused : goal.returns-in-Refused
 unfolding site_alone
 returns-in-Refused c =
     let bad = sym c.judge-answer.ensures ∙ c.in-Refused.is in
-    rw (bad, c.only_said.ensures) (left_saying c.say_site.ensures)
+    rw (bad, c.said.ensures) (left_saying c.say_site.ensures)
 
 pub returns : goal.returns
 unfolding site_alone

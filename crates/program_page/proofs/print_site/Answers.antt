@@ -4,4 +4,4 @@ use Rattle.program_page.proofs.print_site.Goals as goal
 
 pub returns : goal.returns
 unfolding site_page
-returns c = record { prints = c.put_site_page-prints.ensures; writes = refl; says = c.say_site-says.ensures }
+returns c = record { prints = rw c.of_site-heading.ensures at c.put_page-prints.ensures; writes = refl; says = c.say_site-says.ensures }

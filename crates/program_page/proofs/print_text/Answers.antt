@@ -4,4 +4,6 @@ use Rattle.program_page.proofs.print_text.Goals as goal
 
 pub returns : goal.returns
 unfolding text_page
-returns c = record { prints = c.put_text_page-prints.ensures; writes = refl; says = c.say_refused-says.ensures }
+returns c =
+    let heading = rw (c.title_in-title.ensures, c.unmarked.ensures) at c.of_text-heading.ensures in
+    record { prints = rw heading at c.put_page-prints.ensures; writes = refl; says = c.say_refused-says.ensures }

@@ -1,7 +1,16 @@
+use mathlib.Core.Path.{◌≡◌, refl}
+use mathlib.Core.List.{List}
+use Prim.Native.Nat.{ℕ}
+use lib.ListN.{take}
+use Rattle.std.specs.Prelude.{Some, None, unwrap_or}
+use Rattle.program_outcome.specs.Outcome.{Input}
+use Rattle.program_record.specs.Arguments.{bytes_of}
 use Rattle.program_record.proofs.bytes_of.Goals as goal
 
-pub returns-in-Read : goal.returns-in-Read
-returns-in-Read c = rw c.in-Read.is c.front.ensures.0
+-- of no bytes, the front has none
+front_read : (input : Input) (area : List ℕ) → take (unwrap_or input 0) area ≡ bytes_of input area
+front_read (Some size) area = refl
+front_read None area = refl
 
-pub returns-in-Failed : goal.returns-in-Failed
-returns-in-Failed c = rw c.in-Failed.is c.front-in-Failed.ensures.0
+pub returns : goal.returns
+returns c = rw (c.unwrap_or.ensures, front_read c.args.input c.args.area.now) at c.front.ensures.0

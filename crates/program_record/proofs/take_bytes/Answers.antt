@@ -1,11 +1,11 @@
 -- `program_record::take_bytes`. A study file, and what may be a text.
-use Rattle.program_record.proofs.Laws.{said_long, made_none}
+use Rattle.program_outcome.proofs.Laws.{stops_of}
 use mathlib.Core.Path.{sym, ◌∙◌}
 use Rattle.program_record.proofs.take_bytes.Goals as goal
 
 pub returns-in-Accepted : goal.returns-in-Accepted
 returns-in-Accepted c =
-    rw (sym c.check-answer.ensures ∙ c.in-Accepted.is) (made_none (said_long _ _) c.say.ensures)
+    rw (sym c.check-answer.ensures ∙ c.in-Accepted.is) (stops_of _ _ c.say.ensures)
 
 pub returns : goal.returns
 returns c =

@@ -1,5 +1,6 @@
 -- `program_record::take_word`. A word that is a value, and one that is none.
-use Rattle.program_record.proofs.Laws.{said_long, made_number, made_none}
+use Rattle.program_outcome.proofs.Laws.{stops_of}
+use Rattle.program_record.proofs.Laws.{made_number}
 use mathlib.Core.Path.{sym, ◌∙◌}
 use Rattle.layout.specs.Diamond.{storages_from}
 use Prim.Native.Nat.{◌+◌}
@@ -14,4 +15,4 @@ pub returns-in-Not : goal.returns-in-Not
 returns-in-Not c =
     let word = c.own_word-word.ensures in
     let is = rw (c.own_kind.ensures, word) at (sym c.value_of-value.ensures ∙ c.in-Not.is) in
-    rw is (made_none (said_long _ _) (rw word at c.say_trouble.ensures))
+    rw is (stops_of _ _ (rw word at c.say_trouble.ensures))

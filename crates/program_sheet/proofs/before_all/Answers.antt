@@ -8,4 +8,4 @@ pub returns : goal.returns
 unfolding before_all ascii
 returns c =
     let read = c.read_site-sought in
-    rw (← read.ensures.value, said_alone read.result _ _, c.only_said.ensures) (left_saying c.say_site.ensures)
+    rw (← read.ensures.value, said_alone read.result _ _, c.said.ensures) (left_saying c.say_site.ensures)

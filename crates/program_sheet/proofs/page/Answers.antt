@@ -5,9 +5,9 @@ use Rattle.program_sheet.proofs.page.Goals as goal
 
 pub returns-in_default : goal.returns-in_default
 unfolding page_at
-returns-in_default c = rw (c.in_default.is, c.only_printed.ensures) (left_printing (placed_nothing _ _))
+returns-in_default c = rw (c.in_default.is, c.printed.ensures) (left_printing (placed_nothing _ _))
 
 pub returns : goal.returns
 unfolding page_at
 returns c =
-    rw c.in-Read.is (rw (c.word-name.ensures, c.front.ensures.0) at c.page_in.ensures)
+    rw c.in-Some.is (rw (c.word-name.ensures, c.front.ensures.0) at c.page_in.ensures)

@@ -12,7 +12,7 @@ use Rattle.program_sheet.proofs.page_in.Goals as goal
 pub returns-then-sites-site : goal.returns-then-sites-site
 returns-then-sites-site c =
     let past = rw c.count-sites.ensures.0 at c.if-sites-site.true in
-    rw (le-leb _ _ past, c.only_printed.ensures) (left_printing (placed_nothing _ _))
+    rw (le-leb _ _ past, c.printed.ensures) (left_printing (placed_nothing _ _))
 
 pub returns : goal.returns
 returns c =

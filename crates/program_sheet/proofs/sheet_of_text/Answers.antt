@@ -8,7 +8,7 @@ pub returns-in-Accepted : goal.returns-in-Accepted
 unfolding sheet_of_text
 returns-in-Accepted c =
     let good = sym c.check-answer.ensures ∙ c.in-Accepted.is in
-    rw (good, c.only_said.ensures) (left_saying c.say.ensures)
+    rw (good, c.said.ensures) (left_saying c.say.ensures)
 
 pub returns : goal.returns
 unfolding sheet_of_text

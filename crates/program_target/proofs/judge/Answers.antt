@@ -1,21 +1,18 @@
 -- `program_target::judge`. A case for each thing that can be found.
 use Rattle.program_target.specs.Target.{target_text}
-use Rattle.text.proofs.Laws.{placed_nothing}
+use Rattle.program_target.proofs.Laws.{found_there}
+use Rattle.program_outcome.proofs.Laws.{stops_of, goes_on}
 use Rattle.program_target.proofs.judge.Goals as goal
 
-pub returns-in-Absent : goal.returns-in-Absent
+pub returns-in-Ok-None : goal.returns-in-Ok-None
 unfolding target_text
-returns-in-Absent c = rw c.in-Absent.is (placed_nothing _ _)
+returns-in-Ok-None c = rw (found_there c.args.found c.in-Ok-None.is (rw c.in-Ok-None.is at c.in-Ok-None.field-0-is)) (goes_on tt)
 
-pub returns-in-Bytes : goal.returns-in-Bytes
+pub returns-in-Ok-Some : goal.returns-in-Ok-Some
 unfolding target_text
-returns-in-Bytes c =
-    rw c.in-Bytes.is (rw c.front.ensures.0 at c.judge_bytes.ensures)
+returns-in-Ok-Some c =
+    rw (found_there c.args.found c.in-Ok-Some.is (rw c.in-Ok-Some.is at c.in-Ok-Some.field-0-is)) (rw c.front.ensures.0 at c.judge_bytes.ensures)
 
-pub returns-in-Link : goal.returns-in-Link
+pub returns-in-Err : goal.returns-in-Err
 unfolding target_text
-returns-in-Link c = rw c.in-Link.is c.say.ensures
-
-pub returns-in-Closed : goal.returns-in-Closed
-unfolding target_text
-returns-in-Closed c = rw c.in-Closed.is c.say-in-Closed.ensures
+returns-in-Err c = rw c.in-Err.is (stops_of _ _ c.say.ensures)

@@ -1,18 +1,14 @@
--- `program_words::end_of`. The loop's invariant: the word goes on from the place that is reached.
-use Rattle.program_words.proofs.Laws.{one_passed, ends_at, ends_last}
-use mathlib.Core.Path.{refl}
-use native.Mathlib.Omega.{arith}
+-- `program_words::end_of`. The place of the first byte 0 of the rest, or the end of the bytes.
+use Rattle.std.proofs.Common.{ℕ, ◌+◌, drop, eqb, ap, arith, rules, tests}
+use Rattle.std.proofs.lemmas.List.{take_rest, length-drop}
+use Rattle.std.proofs.lemmas.Iterator.{YieldsList-from_slice}
+use Rattle.std.proofs.lemmas.Iterator.Search.{position_from_yields_List}
+use Rattle.program_words.proofs.Laws.{first_within, end_is}
 use Rattle.program_words.proofs.end_of.Goals as goal
 
-pub loop-at-init : goal.loop-at-init
-loop-at-init c = record { few = c.requires; past = omega arith; end = refl }
-
-pub returns-then-words-at-eq0 : goal.returns-then-words-at-eq0
-returns-then-words-at-eq0 c =
-    (ends_at _ _ _ c.loop-at-test.true c.if-words-at-eq0.true c.loop-at.invariant, omega arith)
-
-pub loop-at-preserved : goal.loop-at-preserved
-loop-at-preserved c = one_passed _ _ _ c.loop-at-test.true c.if-words-at-eq0.false c.loop-at.invariant
-
 pub returns : goal.returns
-returns c = (ends_last _ _ _ c.loop-at-test.false c.loop-at.invariant, omega (arith, c.loop-at.invariant.few))
+returns c =
+    let rest = drop c.args.from c.args.words.now in
+    let found = position_from_yields_List (λ byte. eqb byte 0) _ _ c.position.result c.position.ensures.ran (YieldsList-from_slice _ c.iter.ensures.rest) (λ x b q k. search (rules, tests)) in
+    let is = rw (found, take_rest c.args.words.now c.args.from, end_is rest) at c.unwrap_or.ensures in
+    (ap (λ n. c.args.from + n) is, omega (arith, is, first_within rest, length-drop {A = ℕ}))

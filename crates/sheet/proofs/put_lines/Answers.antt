@@ -5,19 +5,20 @@ use Rattle.lists.proofs.Laws.{over_then}
 use native.Mathlib.Omega.{arith}
 use Rattle.sheet.proofs.put_lines.Goals as goal
 
-pub put_first-requires : goal.put_first-requires
-put_first-requires c = omega (arith, (few c.args.kind).least, c.requires)
+pub put-requires : goal.put-requires
+put-requires c = rw c.first_cells.ensures (omega (arith, (few c.args.kind).least, c.requires))
 
-pub put_later-requires : goal.put_later-requires
-put_later-requires c =
-    omega (arith, c.all-1.given, rw c.in-Junction.is at c.requires)
+pub put-requires-in-Junction : goal.put-requires-in-Junction
+put-requires-in-Junction c =
+    rw c.later_cells.ensures (omega (arith, rw c.in-Junction.is at c.requires))
 
 pub returns-in-Junction : goal.returns-in-Junction
 returns-in-Junction c =
     let a = c.args in
     rw c.in-Junction.is
-    (over_then a.all.now a.at (first_cells a.lines.first) (later_cells a.lines.later) c.put_first.ensures c.put_later.ensures
+    (over_then a.all.now a.at (first_cells a.lines.first) (later_cells a.lines.later) (rw c.first_cells.ensures at c.put.ensures)
+    (rw c.later_cells.ensures at c.put-in-Junction.ensures)
     (omega arith) (omega (arith, rw c.in-Junction.is at c.requires)))
 
 pub returns-in_default : goal.returns-in_default
-returns-in_default c = rw c.in_default.is c.put_first.ensures
+returns-in_default c = rw (c.in_default.is, ← c.first_cells.ensures) c.put.ensures

@@ -6,4 +6,4 @@ cell_in-requires c =
     rw (c.pair_cells.ensures, c.pair_of.ensures, c.requires.0) (within c.args.kind c.args.a c.requires.1).pair
 
 pub returns : goal.returns
-returns c = rw (c.cell_in.ensures, c.pair_cells.ensures, c.pair_of.ensures)
+returns c = rw (c.at.ensures, c.cell_in.ensures, c.pair_cells.ensures, c.pair_of.ensures)

@@ -1,4 +1,5 @@
 use Rattle.procedure.specs.Sheet.{last_of}
+use Rattle.line_bounds.proofs.Order.{larger}
 use Rattle.sheet_totals.proofs.last_of.Goals as goal
 
 pub returns : goal.returns
@@ -7,8 +8,8 @@ returns c =
     rw (
       c.letter_of.ensures,
       c.icu_of-icu.ensures,
-      c.larger-required.ensures,
-      c.larger-right.ensures,
-      c.larger-2.ensures,
-      c.larger.ensures,
+      larger c.args.combined c.max-right.result c.max-required.ensures,
+      larger c.max.result c.max-2.result c.max-right.ensures,
+      larger c.args.rights.nb c.args.rights.sb c.max-2.ensures,
+      larger c.args.rights.eb c.args.rights.wb c.max.ensures,
     )

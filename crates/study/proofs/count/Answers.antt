@@ -4,4 +4,4 @@ use Rattle.study.proofs.count.Goals as goal
 pub returns : goal.returns
 returns c =
     let format = c.format_of.ensures in
-    (rw (← format.0) c.count.ensures.0, le_trans c.count.ensures.1 format.2)
+    (rw (← format.0) c.count.ensures.0, le_trans c.count.ensures.1 format.1)

@@ -1,7 +1,6 @@
 -- `study::entries_of`. A block of before by its size; else as a block of today.
 use borrow.Author.Tests.{eq-eqb, ne_eqb}
 use Rattle.study.specs.Study.{block_answer, block_entries}
-use Rattle.study.proofs.Laws.{modest_today}
 use Rattle.study.proofs.entries_of.Goals as goal
 
 pub returns-then-block-eq-BEFORE_BYTES : goal.returns-then-block-eq-BEFORE_BYTES
@@ -21,6 +20,3 @@ returns c =
       value = rw today c.entries_of.ensures.value;
       entries_after = rw today c.entries_of.ensures.entries_after;
     }
-
-pub entries_of-requires : goal.entries_of-requires
-entries_of-requires c = modest_today

@@ -1,7 +1,7 @@
 -- `study::site_entries`. The size is asked first, then the part; where it is empty the site is refused, else it is the block.
 use Rattle.study_reader.proofs.Laws.{part_empty, part_there}
 use Rattle.study.specs.Study.{format_of}
-use Rattle.study.proofs.Laws.{modest, block_accepted}
+use Rattle.study.proofs.Laws.{block_accepted}
 use borrow.Author.Tests.{eq-eqb, ne_eqb}
 use Rattle.study.proofs.site_entries.Goals as goal
 
@@ -18,14 +18,14 @@ returns-then-block-eq0 c =
     let none = rw c.site-block.ensures at c.if-block-eq0.true in
     record {
       value = simp sized c.site_answer.ensures;
-      entries_after = simp sized (part_empty (format_of file) (modest file) file c.args.number _ _ none);
+      entries_after = simp sized (part_empty (format_of file) file c.args.number _ _ none);
     }
 
 pub returns : goal.returns
 returns c =
     let file = c.args.file.now in
     let number = c.args.number in
-    let is = part_there (format_of file) (modest file) file number (rw c.site-block.ensures at c.if-block-eq0.false) in
+    let is = part_there (format_of file) file number (rw c.site-block.ensures at c.if-block-eq0.false) in
     let sized = eq-eqb _ _ c.if-entries-ne-ENTRIES.false in
     let good = block_accepted file number _ is c.if-entries-ne-ENTRIES.false in record {
       value = simp (sized, is) (simp (c.site-block.ensures, is, good) at c.entries_of.ensures.value);

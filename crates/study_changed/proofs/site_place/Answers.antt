@@ -1,5 +1,4 @@
 use Rattle.study_changed.proofs.Laws.{in_file, block_within}
-use Rattle.study.proofs.Laws.{modest_today}
 use native.Mathlib.Omega.{arith}
 use Rattle.study_changed.proofs.site_place.Goals as goal
 
@@ -11,7 +10,7 @@ pub block_place-requires : goal.block_place-requires
 block_place-requires c =
     let sites = c.sites_of.ensures in
     let there = in_file c.args.file.now c.args.site c.requires.0 c.requires.1 in
-    (modest_today, omega (arith, sites), omega (arith, sites, there))
+    (omega (arith, sites), omega (arith, sites, there))
 
 pub returns : goal.returns
 returns c = rw c.sites_of.ensures.0 at c.block_place.ensures

@@ -3,10 +3,10 @@ use native.Mathlib.Omega.{arith}
 use Rattle.study_lines.proofs.put_line.Goals as goal
 
 pub put_rated-requires : goal.put_rated-requires
-put_rated-requires c = (rw c.in-Rated.is at c.requires.0, omega arith)
+put_rated-requires c = (rw c.in-Ok.is at c.requires.0, omega arith)
 
-pub returns-in-Rated : goal.returns-in-Rated
-returns-in-Rated c = rw c.in-Rated.is c.put_rated.ensures
+pub returns-in-Ok : goal.returns-in-Ok
+returns-in-Ok c = rw c.in-Ok.is c.put_rated.ensures
 
-pub returns-in-Refused : goal.returns-in-Refused
-returns-in-Refused c = rw c.in-Refused.is c.put_refused.ensures
+pub returns-in-Err : goal.returns-in-Err
+returns-in-Err c = rw c.in-Err.is c.put_refused.ensures

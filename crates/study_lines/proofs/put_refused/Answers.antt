@@ -23,5 +23,5 @@ pub returns : goal.returns
 returns c =
     let args = c.args in
     let is = rw c.number-refusal.ensures at c.put_number_then-refused.ensures in
-    let put = refused_placed args.number c.requires c.put_number_then-numbered.ensures args.why args.place in
+    let put = refused_placed args.number c.requires c.put_number_then-numbered.ensures args.site.why args.site.place in
     put c.put_byte-marked.ensures is c.put_number_then.ensures

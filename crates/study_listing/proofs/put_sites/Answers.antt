@@ -4,11 +4,11 @@ use Rattle.study_theorems.proofs.Study.{has_site}
 use Rattle.study_listing.proofs.Cells.{lettered}
 use Rattle.study.specs.Study.{sites_of, site_entries}
 use native.Mathlib.Omega.{arith}
-use mathlib.Core.Path.{◌≡◌, refl}
+use mathlib.Core.Path.{◌≡◌}
 use Rattle.study_listing.proofs.put_sites.Goals as goal
 
 pub loop-site-init : goal.loop-site-init
-loop-site-init c = (omega arith, refl, no_lines _ _)
+loop-site-init c = no_lines _ _
 
 pub site_cells-requires : goal.site_cells-requires
 site_cells-requires c =
@@ -25,14 +25,11 @@ put_line-at-requires c =
 pub loop-site-preserved : goal.loop-site-preserved
 loop-site-preserved c =
     let args = c.args in
-    let line = rw c.site_cells.ensures at c.put_line-at.ensures in (
-      omega arith,
-      omega (arith, c.put_line-at.auto.out, c.loop-site.invariant.1),
-      one_line_more args.file.now c.loop-site.site (omega arith) (omega arith) c.loop-site.invariant.2 line,
-    )
+    let line = rw c.site_cells.ensures at c.put_line-at.ensures in
+    one_line_more args.file.now c.loop-site.site (omega arith) (omega arith) c.loop-site.invariant line
 
 pub returns : goal.returns
 returns c =
     let count = simp c.requires.0 at c.count-sites.ensures.0 in
     let end : c.loop-site.site ≡ sites_of c.args.file.now = omega arith in
-    rw end at c.loop-site.invariant.2
+    rw end at c.loop-site.invariant

@@ -1,19 +1,8 @@
--- `study_numbers::write`. Four stores put the number's bytes over the list.
-use Rattle.study_numbers.proofs.Laws.{four_stores}
+-- `study_numbers::write`. The number's four bytes are put over the list at once.
+use Rattle.lists.proofs.Laws.{put_over}
 use Rattle.study_numbers.specs.Numbers.{bytes_of}
-use lib.ListN.{length-set}
-use native.Mathlib.Omega.{arith}
 use Rattle.study_numbers.proofs.write.Goals as goal
-
-pub bounds-bytes-at-2 : goal.bounds-bytes-at-2
-bounds-bytes-at-2 c = simp length-set (omega arith)
-
-pub bounds-bytes-at-3 : goal.bounds-bytes-at-3
-bounds-bytes-at-3 c = simp length-set (omega arith)
-
-pub bounds-bytes-at-4 : goal.bounds-bytes-at-4
-bounds-bytes-at-4 c = simp length-set (omega arith)
 
 pub returns : goal.returns
 unfolding bytes_of
-returns c = four_stores _ _ _ _ _ _ c.requires
+returns c = rw (c.copy_from_slice.ensures.after, c.to_le_bytes-four.ensures) (put_over c.args.bytes.now (bytes_of c.args.number) c.args.at)

@@ -8,8 +8,7 @@ returns-in_default c =
     simp (sym c.site_answer-answer.ensures ∙ c.in_default.is)
 
 pub site_place-at-requires : goal.site_place-at-requires
-site_place-at-requires c =
-    (c.requires, sym c.site_answer-answer.ensures ∙ c.in-Accepted.is)
+site_place-at-requires c = sym c.site_answer-answer.ensures ∙ c.in-Accepted.is
 
 pub returns : goal.returns
 returns c =

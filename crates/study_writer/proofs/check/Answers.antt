@@ -14,8 +14,7 @@ returns-in_default-count c =
     (handed_on _ c.check_count-count.ensures c.in_default-count.is)
 
 pub check_room-requires : goal.check_room-requires
-check_room-requires c =
-    (c.requires, ltb-false _ _ (not_refused _ File 0 (sym c.check_count-count.ensures ∙ c.in-Accepted-count.is)))
+check_room-requires c = ltb-false _ _ (not_refused _ File 0 (sym c.check_count-count.ensures ∙ c.in-Accepted-count.is))
 
 pub returns : goal.returns
 returns c =

@@ -2,7 +2,6 @@
 use Rattle.study_writer.proofs.Laws.{writable}
 use Rattle.answers.proofs.Laws.{kept, renewed}
 use mathlib.Core.Path.{sym, ◌∙◌}
-use borrow.Author.Rules.{rules}
 use Rattle.study_writer.proofs.write.Goals as goal
 
 pub returns-in_default : goal.returns-in_default
@@ -14,8 +13,7 @@ returns-in_default c =
     }
 
 pub put_file-requires : goal.put_file-requires
-put_file-requires c =
-    (search rules, writable _ _ _ (sym c.check-answer.ensures ∙ c.in-Accepted.is))
+put_file-requires c = writable _ _ _ (sym c.check-answer.ensures ∙ c.in-Accepted.is)
 
 pub returns : goal.returns
 returns c =

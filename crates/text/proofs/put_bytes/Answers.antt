@@ -1,13 +1,14 @@
--- `text::put_bytes`. The loop has copied so many bytes; at its end, all.
-use Rattle.lists.proofs.Laws.{copied_none, copied_more, copied_all}
-use native.Mathlib.Omega.{arith}
+-- `text::put_bytes`. The part of the area from the place on holds the bytes.
+use Rattle.std.proofs.Common.{length, arith}
+use Rattle.std.proofs.lemmas.Slice.{put_mid-paste}
+use Rattle.lists.specs.Lists.{over}
+use lib.Seq.{take-length}
+use mathlib.Core.Path.{refl, ◌∙◌}
 use Rattle.text.proofs.put_bytes.Goals as goal
 
-pub loop-i-init : goal.loop-i-init
-loop-i-init c = copied_none _ _ _
-
-pub loop-i-preserved : goal.loop-i-preserved
-loop-i-preserved c = copied_more c.requires c.loop-i-test.true c.loop-i.invariant
-
 pub returns : goal.returns
-returns c = record { is = copied_all c.loop-i-test.false c.loop-i.invariant; next = omega (arith, c.loop-i.invariant.few) }
+unfolding over
+returns c =
+    let bytes = c.args.bytes.now in
+    let is = put_mid-paste c.args.at _ c.args.out.now _ bytes (length bytes) c.copy_from_slice.ensures.after (omega arith) refl in
+    record { is = is ∙ rw (take-length bytes); next = refl }

@@ -4,24 +4,21 @@ use mathlib.Core.Path.{sym, ◌∙◌}
 use native.Mathlib.Omega.{arith}
 use Rattle.text_titles.proofs.lead_size.Goals as goal
 
-pub loop-at-init : goal.loop-at-init
-loop-at-init c = (omega arith, omega arith)
-
 pub returns-then-not-is_lead : goal.returns-then-not-is_lead
 returns-then-not-is_lead c =
     let text = c.args.text.now in
     let off = sym c.is_lead.ensures ∙ c.if-not-is_lead.true in
     let stops = lead_stops text c.loop-at.at c.loop-at.comments (omega arith) off in
-    (omega (arith, c.loop-at.invariant.1, stops), omega arith)
+    (omega (arith, c.loop-at.invariant, stops), omega arith)
 
 pub loop-at-preserved : goal.loop-at-preserved
 loop-at-preserved c =
     let text = c.args.text.now in
     let on = sym c.is_lead.ensures ∙ c.if-not-is_lead.false in
     let more = lead_on text c.loop-at.at c.loop-at.comments (omega arith) on in
-    (omega arith, rw c.goes_on-comments.ensures (omega (arith, c.loop-at.invariant.1, more)))
+    rw c.goes_on-comments.ensures (omega (arith, c.loop-at.invariant, more))
 
 pub returns : goal.returns
 returns c =
     let text = c.args.text.now in
-    (omega (arith, c.loop-at.invariant.1, lead_ends text c.loop-at.at c.loop-at.comments (omega arith)), omega arith)
+    (omega (arith, c.loop-at.invariant, lead_ends text c.loop-at.at c.loop-at.comments (omega arith)), omega arith)

@@ -1,13 +1,10 @@
 -- `text_titles::lead_size`. The loop's invariant: every byte passed is of a blank or a comment.
 use Rattle.text_titles.specs.Blanks.{lead_size}
-use Prim.Native.Nat.{◌≤◌, ◌+◌, ◌-◌}
+use Prim.Native.Nat.{◌+◌}
 use mathlib.Core.Path.{◌≡◌}
 use mathlib.Core.Bool.{false}
-use lib.ListN.{length, drop}
+use lib.ListN.{drop}
 use Rattle.text_titles.proofs.lead_size.Given as goal
 
 abbrev pub invariant-loop-at : goal.invariant-loop-at
-invariant-loop-at l = (l.at ≤ length l.text) × (lead_size false l.text ≡ l.at + lead_size l.comments (drop l.at l.text))
-
-abbrev pub decreases-loop-at : goal.decreases-loop-at
-decreases-loop-at l = length l.text - l.at
+invariant-loop-at l = lead_size false l.text ≡ l.at + lead_size l.comments (drop l.at l.text)

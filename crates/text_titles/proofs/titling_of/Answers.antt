@@ -4,31 +4,29 @@ use Rattle.text.specs.Text.{ascii}
 use mathlib.Core.Path.{sym, ◌∙◌}
 use Rattle.text_titles.proofs.titling_of.Goals as goal
 
-pub returns-then-not-begins : goal.returns-then-not-begins
+pub returns-in_default : goal.returns-in_default
 unfolding ascii
-returns-then-not-begins c =
-    let other = sym c.begins.ensures ∙ c.if-not-begins.true in
-    sym (untitled _ c.lead_size-lead.ensures.0 c.past-word.ensures other)
+returns-in_default c = sym (untitled _ c.lead_size-lead.ensures.0 c.past-word.ensures c.in_default.ensures.cases)
 
 pub returns-then-not-is_quoted : goal.returns-then-not-is_quoted
 unfolding ascii
 returns-then-not-is_quoted c =
-    let begun = sym c.begins.ensures ∙ c.if-not-begins.false in
+    let word = c.in-Some.ensures.cases in
     let bad = sym c.is_quoted.ensures ∙ c.if-not-is_quoted.true in
-    sym (mistitled _ c.lead_size-lead.ensures.0 c.past-word.ensures c.past-rest.ensures c.run_size-gap.ensures.0
-    c.past-inner.ensures c.run_size-size.ensures.0 begun bad)
+    sym (mistitled _ c.lead_size-lead.ensures.0 c.past-word.ensures word.1 c.gap_size-gap.ensures.0
+    c.past-inner.ensures c.title_size-size.ensures.0 word.0 bad)
 
 pub titled-requires : goal.titled-requires
 titled-requires c =
     let lead = c.lead_size-lead.ensures in
-    within _ lead.0 c.past-word.ensures c.past-rest.ensures c.run_size-gap.ensures.0
-    c.past-inner.ensures c.run_size-size.ensures.0 lead.1 c.run_size-gap.ensures.1 c.run_size-size.ensures.1
+    within _ lead.0 c.past-word.ensures c.in-Some.ensures.cases.1 c.gap_size-gap.ensures.0
+    c.past-inner.ensures c.title_size-size.ensures.0 lead.1 c.gap_size-gap.ensures.1 c.title_size-size.ensures.1
 
 pub returns : goal.returns
 unfolding ascii
 returns c =
-    let begun = sym c.begins.ensures ∙ c.if-not-begins.false in
+    let word = c.in-Some.ensures.cases in
     let good = sym c.is_quoted.ensures ∙ c.if-not-is_quoted.false in
-    c.titled.ensures
-    ∙ sym (titled _ c.lead_size-lead.ensures.0 c.past-word.ensures c.past-rest.ensures c.run_size-gap.ensures.0
-    c.past-inner.ensures c.run_size-size.ensures.0 begun good)
+    rw c.titled.ensures
+    (sym (titled _ c.lead_size-lead.ensures.0 c.past-word.ensures word.1 c.gap_size-gap.ensures.0
+    c.past-inner.ensures c.title_size-size.ensures.0 word.0 good))

@@ -4,4 +4,4 @@ use native.Mathlib.Omega.{arith}
 use Rattle.study_format.proofs.Format.block_bytes.Goals as goal
 
 pub overflow_mul-result : goal.overflow_mul-result
-overflow_mul-result c = omega (arith, block_fits c.args.self c.requires)
+overflow_mul-result c = omega (arith, block_fits c.args.self)

@@ -24,7 +24,7 @@ sites_of-sites-requires c =
 pub check_offsets-offsets-requires : goal.check_offsets-offsets-requires
 check_offsets-offsets-requires c =
     let counted = count_accepted c.args.self c.args.file.now (sym c.check_count-count.ensures ∙ c.in-Accepted-count.is) in
-    (c.requires, omega (arith, c.sites_of-sites.ensures.0, counted.1))
+    omega (arith, c.sites_of-sites.ensures.0, counted.1)
 
 pub returns-in_default-offsets : goal.returns-in_default-offsets
 unfolding judgement
@@ -36,7 +36,7 @@ returns-in_default-offsets c =
 pub check_ending-requires : goal.check_ending-requires
 check_ending-requires c =
     let counted = count_accepted c.args.self c.args.file.now (sym c.check_count-count.ensures ∙ c.in-Accepted-count.is) in
-    (c.requires, omega (arith, c.sites_of-sites.ensures.0, counted.1))
+    omega (arith, c.sites_of-sites.ensures.0, counted.1)
 
 pub returns : goal.returns
 unfolding judgement

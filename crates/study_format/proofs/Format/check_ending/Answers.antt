@@ -9,18 +9,18 @@ use Rattle.study_format.proofs.Format.check_ending.Goals as goal
 
 pub file_bytes-end-requires : goal.file_bytes-end-requires
 file_bytes-end-requires c =
-    (c.requires.0, omega (arith, places_fit c.args.self c.args.sites 0 c.requires.0 c.requires.1 (omega arith)))
+    omega (arith, places_fit c.args.self c.args.sites 0 c.requires (omega arith))
 
 pub refused-requires : goal.refused-requires
 refused-requires c =
-    omega (arith, places_fit c.args.self c.args.sites c.args.sites c.requires.0 c.requires.1 (omega arith))
+    omega (arith, places_fit c.args.self c.args.sites c.args.sites c.requires (omega arith))
 
 pub returns-then-length-end : goal.returns-then-length-end
 returns-then-length-end c = c.refused.ensures ∙ simp (← c.file_bytes-end.ensures, lt-ltb _ _ c.if-length-end.true)
 
 pub refused-requires-then-extra-gt0 : goal.refused-requires-then-extra-gt0
 refused-requires-then-extra-gt0 c =
-    omega (arith, places_fit c.args.self c.args.sites c.args.sites c.requires.0 c.requires.1 (omega arith))
+    omega (arith, places_fit c.args.self c.args.sites c.args.sites c.requires (omega arith))
 
 pub returns-then-extra-gt0 : goal.returns-then-extra-gt0
 returns-then-extra-gt0 c =

@@ -1,18 +1,12 @@
 -- `study_format::Format::check_opening`. Cut short, wrong, or right: the opening's three answers.
-use Rattle.study_format.proofs.Laws.{field_fits}
 use Rattle.answers.proofs.Laws.{handed_on, passed, refuses, accepts}
 use mathlib.Core.Path.{sym, ◌∙◌, ap}
 use mathlib.Core.Bool.{not}
-use borrow.Author.Rules.{rules}
 use Rattle.std.proofs.lemmas.Bool.{not_from_false, not_from_true}
 use Rattle.study_format.proofs.Format.check_opening.Goals as goal
 
 pub returns-in_default : goal.returns-in_default
 returns-in_default c = handed_on _ c.check_whole-whole.ensures c.in_default.is
-
-pub opens-requires : goal.opens-requires
-opens-requires c =
-    (search rules, field_fits c.args.file.now 0 c.check_whole-whole.ensures c.in-Accepted.is)
 
 pub returns-then-not-opens : goal.returns-then-not-opens
 returns-then-not-opens c =

@@ -1,8 +1,0 @@
-use borrow.Author.Tests.{eq-eqb, ne_eqb}
-use Rattle.program_outcome.proofs.is_either.Goals as goal
-
-pub returns-then-number-one : goal.returns-then-number-one
-returns-then-number-one c = rw (eq-eqb _ _ c.if-number-one.true)
-
-pub returns : goal.returns
-returns c = rw (ne_eqb _ _ c.if-number-one.false)

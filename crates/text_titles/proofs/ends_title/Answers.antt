@@ -1,7 +1,0 @@
-use Rattle.text_titles.proofs.ends_title.Goals as goal
-
-pub returns-then-is_steering : goal.returns-then-is_steering
-returns-then-is_steering c = rw (← c.is_steering.ensures, c.if-is_steering.true)
-
-pub returns : goal.returns
-returns c = rw (← c.is_steering.ensures, c.if-is_steering.false)
