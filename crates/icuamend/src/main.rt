@@ -2,7 +2,7 @@
 // said is the one call's to promise; the rest is input and output.
 #![tactic(auto)]
 
-use program_outcome::{AREA_BYTES, Call, Input};
+use program_outcome::{AREA_BYTES, Call, Input, Lengths};
 
 // Room for the worksheet, a study, a site, the changes and the file to write.
 const WORDS_BYTES: usize = (1 + program_amend::MOST_WORDS) * program_io::WORD_ROOM;
@@ -13,6 +13,30 @@ fn read(rt: &HostRuntime, count: usize, words: &[u8], area: &mut [u8; AREA_BYTES
         return program_io::read_named(rt, program_words::word(words, 0), area);
     }
     None
+}
+
+fn say(err: &impl Print, said: &[u8; program_amend::SAID_BYTES], size: usize) {
+    program_io::say(err, said, size);
+}
+
+// Prints, and writes the file; each area has its own size, so that none stands for another.
+fn give(
+    rt: &HostRuntime,
+    arguments: usize,
+    words: &[u8],
+    printed: &[u8; program_amend::PRINTED_BYTES],
+    written: &[u8; program_amend::WRITTEN_BYTES],
+    lengths: Lengths,
+) {
+    program_io::give(
+        rt,
+        &rt.stderr(),
+        b"icuamend",
+        program_words::word(words, program_amend::new_place(arguments)),
+        program_outcome::front(printed, lengths.prints),
+        program_outcome::front(written, lengths.writes),
+        lengths.says == 0,
+    );
 }
 
 fn run(rt: &HostRuntime, words: &[u8]) {
@@ -30,16 +54,8 @@ fn run(rt: &HostRuntime, words: &[u8]) {
         input,
     };
     let lengths = program_amend::run(call, rest, &area, &mut printed, &mut written, &mut said);
-    program_io::say(&rt.stderr(), &said, lengths.says);
-    program_io::give(
-        rt,
-        &rt.stderr(),
-        b"icuamend",
-        program_words::word(rest, program_amend::new_place(arguments)),
-        program_outcome::front(&printed, lengths.prints),
-        program_outcome::front(&written, lengths.writes),
-        lengths.says == 0,
-    );
+    say(&rt.stderr(), &said, lengths.says);
+    give(rt, arguments, rest, &printed, &written, lengths);
 }
 
 fn main(rt: HostRuntime) {

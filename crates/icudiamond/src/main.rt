@@ -3,7 +3,7 @@
 #![tactic(auto)]
 
 use program_diamond::{DiamondCall, PRINTED_BYTES};
-use program_outcome::{AREA_BYTES, Input, SAID_BYTES};
+use program_outcome::{AREA_BYTES, Input, Lengths, SAID_BYTES};
 use program_record::{EAST, Files, WEST};
 
 // Room for the texts' names and the numbers.
@@ -23,6 +23,16 @@ fn read(
     None
 }
 
+// Prints and says; each area has its own size, so that none stands for another.
+fn put_out(
+    rt: &HostRuntime,
+    lengths: Lengths,
+    printed: &[u8; PRINTED_BYTES],
+    said: &[u8; SAID_BYTES],
+) {
+    program_io::put_out(rt, &rt.stderr(), b"icudiamond", lengths, printed, said);
+}
+
 fn give(
     rt: &HostRuntime,
     call: DiamondCall,
@@ -33,7 +43,7 @@ fn give(
     let mut printed = [0u8; PRINTED_BYTES];
     let mut said = [0u8; SAID_BYTES];
     let lengths = program_diamond::run(call, words, west, east, &mut printed, &mut said);
-    program_io::put_out(rt, &rt.stderr(), b"icudiamond", lengths, &printed, &said);
+    put_out(rt, lengths, &printed, &said);
 }
 
 fn run(rt: &HostRuntime, words: &[u8]) {

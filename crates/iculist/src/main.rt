@@ -4,7 +4,7 @@
 
 use layout::Worksheet;
 use program_list::PRINTED_BYTES;
-use program_outcome::{AREA_BYTES, Call, Input, SAID_BYTES};
+use program_outcome::{AREA_BYTES, Call, Input, Lengths, SAID_BYTES};
 
 // Room for a file's name.
 const WORDS_BYTES: usize = program_io::WORD_ROOM;
@@ -20,6 +20,16 @@ fn read(rt: &HostRuntime, count: usize, words: &[u8], area: &mut [u8; AREA_BYTES
     program_io::read_open(&mut rt.stdin(), area)
 }
 
+// Prints and says; each area has its own size, so that none stands for another.
+fn put_out(
+    rt: &HostRuntime,
+    lengths: Lengths,
+    printed: &[u8; PRINTED_BYTES],
+    said: &[u8; SAID_BYTES],
+) {
+    program_io::put_out(rt, &rt.stderr(), b"iculist", lengths, printed, said);
+}
+
 fn run(rt: &HostRuntime, words: &[u8]) {
     let mut area = [0u8; AREA_BYTES];
     let mut printed = [0u8; PRINTED_BYTES];
@@ -32,7 +42,7 @@ fn run(rt: &HostRuntime, words: &[u8]) {
         input,
     };
     let lengths = program_list::run(call, words, &area, &mut printed, &mut said);
-    program_io::put_out(rt, &rt.stderr(), b"iculist", lengths, &printed, &said);
+    put_out(rt, lengths, &printed, &said);
 }
 
 fn main(rt: HostRuntime) {

@@ -6,7 +6,7 @@ use open_file::OPEN_BYTES;
 use program_office::Job;
 use program_open::{STUDY, TEXT};
 use program_open_add::Files;
-use program_outcome::{AREA_BYTES, SAID_BYTES};
+use program_outcome::{AREA_BYTES, Lengths, SAID_BYTES};
 use program_target::Found;
 use std::fs::File;
 
@@ -21,8 +21,16 @@ fn find(rt: &HostRuntime, words: &[u8], area: &mut [u8; AREA_BYTES]) -> Found {
 }
 
 // Prints, and gives up the lock: it becomes the study where one is written.
-fn settle(rt: &HostRuntime, words: &[u8], file: File, printed: &[u8], written: &[u8]) {
+fn settle(
+    rt: &HostRuntime,
+    words: &[u8],
+    file: File,
+    printed: &[u8],
+    written: &[u8; OPEN_BYTES],
+    size: usize,
+) {
     let name = program_words::word(words, STUDY);
+    let written = program_outcome::front(written, size);
     program_io::settle_lock(rt, &rt.stderr(), b"icuoffice", name, file, printed, written);
 }
 
@@ -36,8 +44,7 @@ fn start(rt: &HostRuntime, words: &[u8]) {
     let found = find(rt, words, &mut area);
     let lengths = program_office::start(found, words, &mut written, &mut said);
     program_io::say(&rt.stderr(), &said, lengths.says);
-    let written = program_outcome::front(&written, lengths.writes);
-    settle(rt, words, file, b"", written);
+    settle(rt, words, file, b"", &written, lengths.writes);
 }
 
 // The text is read first, since it may come slowly and others wait for the lock.
@@ -67,8 +74,7 @@ fn add(rt: &HostRuntime, words: &[u8]) {
     );
     program_io::say(&rt.stderr(), &said, lengths.says);
     let printed = program_outcome::front(&printed, lengths.prints);
-    let written = program_outcome::front(&written, lengths.writes);
-    settle(rt, words, file, printed, written);
+    settle(rt, words, file, printed, &written, lengths.writes);
 }
 
 fn amend(rt: &HostRuntime, words: &[u8]) {
@@ -90,8 +96,17 @@ fn amend(rt: &HostRuntime, words: &[u8]) {
     );
     program_io::say(&rt.stderr(), &said, lengths.says);
     let printed = program_outcome::front(&printed, lengths.prints);
-    let written = program_outcome::front(&written, lengths.writes);
-    settle(rt, words, file, printed, written);
+    settle(rt, words, file, printed, &written, lengths.writes);
+}
+
+// Prints and says what reading gives; each area has its own size, so that none stands for another.
+fn put_read(
+    rt: &HostRuntime,
+    lengths: Lengths,
+    printed: &[u8; program_open_read::PRINTED_BYTES],
+    said: &[u8; SAID_BYTES],
+) {
+    program_io::put_out(rt, &rt.stderr(), b"icuoffice", lengths, printed, said);
 }
 
 // A study that is only read needs no lock: it is whole at any time.
@@ -101,14 +116,23 @@ fn read(rt: &HostRuntime, words: &[u8]) {
     let mut said = [0u8; SAID_BYTES];
     let input = program_io::read_named(rt, program_words::word(words, STUDY), &mut area);
     let lengths = program_open_read::run(input, words, &area, &mut printed, &mut said);
-    program_io::put_out(rt, &rt.stderr(), b"icuoffice", lengths, &printed, &said);
+    put_read(rt, lengths, &printed, &said);
+}
+
+fn put_told(
+    rt: &HostRuntime,
+    lengths: Lengths,
+    printed: &[u8; program_office::TOLD_BYTES],
+    said: &[u8; SAID_BYTES],
+) {
+    program_io::put_out(rt, &rt.stderr(), b"icuoffice", lengths, printed, said);
 }
 
 fn tell(rt: &HostRuntime, job: Job) {
     let mut printed = [0u8; program_office::TOLD_BYTES];
     let mut said = [0u8; SAID_BYTES];
     let lengths = program_office::tell(job, &mut printed, &mut said);
-    program_io::put_out(rt, &rt.stderr(), b"icuoffice", lengths, &printed, &said);
+    put_told(rt, lengths, &printed, &said);
 }
 
 fn run(rt: &HostRuntime, words: &[u8]) {

@@ -2,7 +2,7 @@
 // printed and said is the calls' to promise; the rest is input and output.
 #![tactic(auto)]
 
-use program_outcome::{AREA_BYTES, Call, Input, SAID_BYTES};
+use program_outcome::{AREA_BYTES, Call, Input, Lengths, SAID_BYTES};
 use program_sheet::PRINTED_BYTES;
 
 // Room for the word that asks for a worksheet, a file's name and a site.
@@ -16,11 +16,21 @@ fn read(rt: &HostRuntime, count: usize, words: &[u8], area: &mut [u8; AREA_BYTES
     None
 }
 
+// Prints and says, and answers whether all was printed; each area has its own size, so that none stands for another.
+fn put_out(
+    rt: &HostRuntime,
+    lengths: Lengths,
+    printed: &[u8; PRINTED_BYTES],
+    said: &[u8; SAID_BYTES],
+) -> bool {
+    program_io::put_out(rt, &rt.stderr(), b"icusheet", lengths, printed, said)
+}
+
 fn run_once(rt: &HostRuntime, call: Call, words: &[u8], area: &[u8; AREA_BYTES]) {
     let mut printed = [0u8; PRINTED_BYTES];
     let mut said = [0u8; SAID_BYTES];
     let lengths = program_sheet::run(call, words, area, &mut printed, &mut said);
-    program_io::put_out(rt, &rt.stderr(), b"icusheet", lengths, &printed, &said);
+    put_out(rt, lengths, &printed, &said);
 }
 
 fn put_page(
@@ -33,7 +43,7 @@ fn put_page(
     let mut printed = [0u8; PRINTED_BYTES];
     let mut said = [0u8; SAID_BYTES];
     let lengths = program_sheet::page(call, words, area, site, &mut printed, &mut said);
-    program_io::put_out(rt, &rt.stderr(), b"icusheet", lengths, &printed, &said)
+    put_out(rt, lengths, &printed, &said)
 }
 
 // Page after page, where the sheets of all sites are asked for, until one cannot be printed.

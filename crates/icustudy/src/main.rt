@@ -3,7 +3,7 @@
 #![tactic(auto)]
 
 use program_make::ALL_ENTRIES;
-use program_outcome::{AREA_BYTES, SAID_BYTES, WORD_BYTES};
+use program_outcome::{AREA_BYTES, Lengths, SAID_BYTES, WORD_BYTES};
 use program_study::{Job, STUDY};
 
 // Room for the job, a study, and a site or a file to write.
@@ -39,15 +39,20 @@ fn add_texts(
 }
 
 // Writes a study to the file that an argument names.
-fn write_out(rt: &HostRuntime, name: &[u8], written: &[u8]) {
+fn write_out(
+    rt: &HostRuntime,
+    name: &[u8],
+    written: &[u8; program_make::WRITTEN_BYTES],
+    size: usize,
+) {
+    let written = program_outcome::front(written, size);
     program_io::give(rt, &rt.stderr(), b"icustudy", name, b"", written, true);
 }
 
 fn write(rt: &HostRuntime, words: &[u8], texts: u32, all: &[u32; ALL_ENTRIES]) {
     let mut written = [0u8; program_make::WRITTEN_BYTES];
     let size = program_make::make(texts, all, &mut written);
-    let name = program_words::word(words, STUDY);
-    write_out(rt, name, program_outcome::front(&written, size));
+    write_out(rt, program_words::word(words, STUDY), &written, size);
 }
 
 fn make(rt: &HostRuntime, words: &[u8], texts: u32) {
@@ -59,13 +64,23 @@ fn make(rt: &HostRuntime, words: &[u8], texts: u32) {
     }
 }
 
+// Prints and says; each area has its own size, so that none stands for another.
+fn put_out(
+    rt: &HostRuntime,
+    lengths: Lengths,
+    printed: &[u8; program_study::PRINTED_BYTES],
+    said: &[u8; SAID_BYTES],
+) {
+    program_io::put_out(rt, &rt.stderr(), b"icustudy", lengths, printed, said);
+}
+
 fn show(rt: &HostRuntime, words: &[u8]) {
     let mut area = [0u8; AREA_BYTES];
     let mut printed = [0u8; program_study::PRINTED_BYTES];
     let mut said = [0u8; SAID_BYTES];
     let input = program_io::read_named(rt, program_words::word(words, STUDY), &mut area);
     let lengths = program_study::show(input, words, &area, &mut printed, &mut said);
-    program_io::put_out(rt, &rt.stderr(), b"icustudy", lengths, &printed, &said);
+    put_out(rt, lengths, &printed, &said);
 }
 
 fn convert(rt: &HostRuntime, words: &[u8]) {
@@ -76,14 +91,14 @@ fn convert(rt: &HostRuntime, words: &[u8]) {
     let lengths = program_convert::run(input, words, &area, &mut written, &mut said);
     program_io::say(&rt.stderr(), &said, lengths.says);
     let name = program_words::word(words, program_convert::NEW);
-    write_out(rt, name, program_outcome::front(&written, lengths.writes));
+    write_out(rt, name, &written, lengths.writes);
 }
 
 fn tell(rt: &HostRuntime, job: Job) {
     let mut printed = [0u8; program_study::PRINTED_BYTES];
     let mut said = [0u8; SAID_BYTES];
     let lengths = program_study::tell(job, &mut printed, &mut said);
-    program_io::put_out(rt, &rt.stderr(), b"icustudy", lengths, &printed, &said);
+    put_out(rt, lengths, &printed, &said);
 }
 
 fn run(rt: &HostRuntime, words: &[u8]) {

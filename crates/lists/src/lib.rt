@@ -9,5 +9,8 @@ pub fn put(list: &mut [u32], at: usize, part: &[u32])
     requires { at + length part.now ≤ length list.old }
     ensures { list.new ≡ over list.old at part.now }
 {
-    list[at..at + part.len()].copy_from_slice(part);
+    // Number by number: over `copy_from_slice`, what C links would need `memmove` from outside.
+    for i in 0..part.len() {
+        list[at + i] = part[i];
+    }
 }

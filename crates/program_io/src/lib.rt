@@ -11,7 +11,7 @@ ghost use Rattle.io.specs.Counts.{IsPrefixLen};
 ghost use Rattle.program_io.specs.Input.{Within, Reads, ReadsOnce, beside_most};
 
 use program_outcome::{AREA_BYTES, Input, Lengths, Remark, SAID_BYTES, WORD_BYTES};
-use program_target::Found;
+use program_target::{Barred, Found};
 use std::env::FillError;
 use std::fs::{OpenFile, OpenOptions};
 use std::io::{ErrorKind, Read, Seek, Write};
@@ -132,9 +132,9 @@ fn is_link(files: &impl Files, name: &str) -> bool {
 // Reads a file that was opened at its start; what has no start is no file, and reading it could wait for ever.
 fn find_open<F: Read + Seek>(file: &mut F, area: &mut [u8]) -> Found {
     let Ok(0) = file.stream_position() else {
-        return Err(Remark::Unwritten);
+        return Err(Barred::Closed);
     };
-    let size = read_open(file, area).ok_or(Remark::Unwritten)?;
+    let size = read_open(file, area).ok_or(Barred::Closed)?;
     Ok(Some(size))
 }
 
@@ -142,18 +142,18 @@ fn find_open<F: Read + Seek>(file: &mut F, area: &mut [u8]) -> Found {
 // No file has a name of no bytes.
 pub fn find(files: &impl Files, name: &[u8], area: &mut [u8]) -> Found {
     if name.is_empty() {
-        return Err(Remark::Unwritten);
+        return Err(Barred::Closed);
     }
     let Ok(name) = str::from_utf8(name) else {
-        return Err(Remark::Unwritten);
+        return Err(Barred::Closed);
     };
     if is_link(files, name) {
-        return Err(Remark::IsLink);
+        return Err(Barred::Link);
     }
     match OpenOptions::new().read(true).write(true).open(files, name) {
         Ok(mut file) => find_open(&mut file, area),
         Err(e) if e.kind() == ErrorKind::NotFound => Ok(None),
-        Err(_) => Err(Remark::Unwritten),
+        Err(_) => Err(Barred::Closed),
     }
 }
 
@@ -273,7 +273,7 @@ pub fn put_out(
     program: &[u8],
     lengths: Lengths,
     printed: &[u8],
-    said: &[u8],
+    said: &[u8; SAID_BYTES],
 ) -> bool {
     let is_printed = print(
         out,

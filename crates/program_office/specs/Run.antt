@@ -8,7 +8,7 @@ use Rattle.program_wish.specs.Wish.{same, wish_of, version_text}
 use Rattle.program_wish.specs.declared.Wish.{Wish}
 use Rattle.program_wish.specs.declared.Wish.TheVariants.{Help as ForHelp, Version as ForVersion, Work}
 use Rattle.program_outcome.specs.Outcome.{Outcome, printing, writing, saying, named, remarked}
-use Rattle.program_target.specs.Target.{Found}
+use Rattle.program_target.specs.Target.{Found, barred_remark}
 use Rattle.program_office.specs.declared.Job.{Job}
 use Rattle.program_office.specs.declared.Job.TheVariants.{New, Add, Amend, Read, Use, Help, Version}
 
@@ -56,4 +56,4 @@ told_of Version = printing version_text
 unfoldable pub start_run : Found → List ℕ → Outcome
 start_run (Ok None) words = writing empty_file
 start_run (Ok (Some size)) words = saying (named (word_at words 0) (ascii "there is such a file, which stays as it is: name another\n"))
-start_run (Err why) words = saying (remarked (word_at words 0) why)
+start_run (Err why) words = saying (remarked (word_at words 0) (barred_remark why))

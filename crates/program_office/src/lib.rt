@@ -11,7 +11,7 @@ ghost use Rattle.program_office.specs.Working.{use_most};
 
 use layout::{BLOCKS, PLACES};
 use open_file::OPEN_BYTES;
-use program_outcome::{Lengths, SAID_BYTES};
+use program_outcome::{Lengths, Remark, SAID_BYTES};
 use program_target::Found;
 use program_wish::Wish;
 
@@ -156,6 +156,6 @@ pub fn start(
             name,
             b"there is such a file, which stays as it is: name another\n",
         )),
-        Err(why) => Lengths::said(program_outcome::say(name, why, said)),
+        Err(why) => Lengths::said(program_outcome::say(name, Remark::from(why), said)),
     }
 }

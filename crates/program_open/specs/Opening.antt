@@ -1,5 +1,5 @@
 -- The open study that a call of `icuoffice` works on, and what is said where there is none; and how a call goes on from there.
-use Rattle.std.specs.Prelude.{ℕ, cond, List, [], ◌∷◌, take, replicate, eqb, Some, None, Ok, Err}
+use Rattle.std.specs.Prelude.{ℕ, cond, List, [], ◌∷◌, take, replicate, eqb, Option, Some, None, Result, Ok, Err}
 use Rattle.answers.specs.declared.Answer.{Answer}
 use Rattle.answers.specs.declared.Answer.TheVariants.{Accepted, Refused}
 use Rattle.layout.specs.declared.Worksheet.TheVariants.{Junction}
@@ -9,21 +9,30 @@ use Rattle.text_refusals.specs.Refusals.{answer_text}
 use Rattle.open_rules.specs.Open.{Study, study}
 use Rattle.open_file.specs.File.{is_open, owners_in, blocks_in}
 use Rattle.program_words.specs.Words.{word_at}
+use Rattle.program_outcome.specs.declared.Remark.{Remark}
 use Rattle.program_outcome.specs.declared.Remark.TheVariants.{Unread}
 use Rattle.program_outcome.specs.Outcome.{Input, Outcome, saying, named, remarked}
-use Rattle.program_target.specs.Target.{Found}
+use Rattle.program_target.specs.Target.{Found, barred_remark}
 use Rattle.program_record.specs.Arguments.{◌or_else◌}
 use Rattle.program_open.specs.Words.{study_word, office_word, no_office, office_in}
 
 -- the study ------------------------------------------------------------------------------------------------------------
 
--- what reading it came to, as what was found where it is not to be written again
-abbrev pub source_read : Input → Found
+-- a file, of which so many bytes were read; nothing; or why it cannot be used
+abbrev pub Source : Type 0
+Source = Result (Option ℕ) Remark
+
+-- what was found where it is to be written again, and what reading it came to
+abbrev pub source_found : Found → Source
+source_found (Ok there) = Ok there
+source_found (Err why) = Err (barred_remark why)
+
+abbrev pub source_read : Input → Source
 source_read (Some size) = Ok (Some size)
 source_read None = Err Unread
 
 -- the bytes that were read into an area
-abbrev pub bytes_in : Found → List ℕ → List ℕ
+abbrev pub bytes_in : Source → List ℕ → List ℕ
 bytes_in (Ok (Some size)) area = take size area
 bytes_in (Ok None) area = []
 bytes_in (Err why) area = []
@@ -31,7 +40,7 @@ bytes_in (Err why) area = []
 abbrev pub study_of : List ℕ → Study
 study_of file = study (owners_in file) (blocks_in file)
 
-unfoldable pub study_in : Found → List ℕ → Study
+unfoldable pub study_in : Source → List ℕ → Study
 study_in source area = study_of (bytes_in source area)
 
 -- what is said -----------------------------------------------------------------------------------------------------------
@@ -50,13 +59,13 @@ unopened_text = ascii "no open study stands here: icuoffice STUDY new makes one 
 abbrev pub bytes_say : List ℕ → List ℕ → List ℕ
 bytes_say name file = cond (is_open file) [] (named name unopened_text)
 
-abbrev pub source_says : Found → List ℕ → List ℕ → List ℕ
+abbrev pub source_says : Source → List ℕ → List ℕ → List ℕ
 source_says (Ok (Some size)) name area = bytes_say name (take size area)
 source_says (Ok None) name area = named name unopened_text
 source_says (Err why) name area = remarked name why
 
 -- the office's word is judged first, then the study; nothing is said where all is well
-unfoldable pub open_says : Found → List ℕ → List ℕ → List ℕ
+unfoldable pub open_says : Source → List ℕ → List ℕ → List ℕ
 open_says source words area = office_says words or_else source_says source (word_at words study_word) area
 
 -- the sheet that is lent for the site that a call names

@@ -8,7 +8,7 @@ ghost use Rattle.open_file.specs.File.{is_open, open_file};
 ghost use Rattle.program_outcome.specs.Outcome.{named};
 ghost use Rattle.program_open.specs.Words.{office_of, office_in, site_in};
 ghost use Rattle.program_outcome.specs.Outcome.{Tells};
-ghost use Rattle.program_open.specs.Opening.{source_read, study_of, study_in};
+ghost use Rattle.program_open.specs.Opening.{source_found, source_read, study_of, study_in};
 ghost use Rattle.program_open.specs.Opening.{office_says, unopened_text, bytes_say, source_says, open_says};
 ghost use Rattle.program_open.specs.Working.{held, Taken};
 
@@ -35,6 +35,9 @@ pub const VALUE: usize = 6;
 
 // No office has this number.
 const NO_OFFICE: u32 = 0;
+
+// What stands where the study should be: a file, of which so many bytes were read; nothing; or why it cannot be used.
+pub type Source = Result<Option<usize>, Remark>;
 
 // An open study: whose its places are, and their blocks.
 #[derive(Clone, Copy)]
@@ -67,8 +70,15 @@ pub fn site_in(words: &[u8]) -> u32
     program_site::site_of(text_numbers::number_of(program_words::word(words, SITE)))
 }
 
-// What reading came to, as what was found where a study is only read.
-pub fn source_read(input: Input) -> Found
+// What was found, where the study is to be written again.
+pub fn source_found(found: Found) -> Source
+    ensures { result ≡ source_found found }
+{
+    found.map_err(Remark::from)
+}
+
+// What reading came to, where it is only read.
+pub fn source_read(input: Input) -> Source
     ensures { result ≡ source_read input }
 {
     match input {
@@ -127,7 +137,7 @@ fn take_bytes(name: &[u8], file: &[u8], said: &mut [u8; SAID_BYTES]) -> Result<O
 
 // The same of what stands there.
 fn take_source(
-    source: Found,
+    source: Source,
     name: &[u8],
     area: &[u8; AREA_BYTES],
     said: &mut [u8; SAID_BYTES],
@@ -145,7 +155,7 @@ fn take_source(
 // The study that a call works on, which was read into the area; or how many bytes are said where there is none, of the office's
 // word first.
 pub fn study_in(
-    source: Found,
+    source: Source,
     words: &[u8],
     area: &[u8; AREA_BYTES],
     said: &mut [u8; SAID_BYTES],

@@ -10,7 +10,7 @@ use Rattle.program_words.specs.Words.{word_at}
 use Rattle.program_outcome.specs.Outcome.{Outcome}
 use Rattle.program_record.specs.Arguments.{entries_of, file_says}
 use Rattle.program_open.specs.Words.{study_word, text_word, office_in}
-use Rattle.program_open.specs.Opening.{study_in, open_says, ◌or_gives◌, if_accepted}
+use Rattle.program_open.specs.Opening.{source_found, study_in, open_says, ◌or_gives◌, if_accepted}
 use Rattle.program_open_add.specs.declared.Files.{Files}
 
 -- "site 3": places are told from 1
@@ -29,6 +29,7 @@ add_site words e S = if_accepted (add_answer S (office_in words) e) (word_at wor
 -- what is said of the office's word, of the study, or of the text, which is taken as a junction's is; or else the site is added
 unfoldable pub open_add_run : Files → List ℕ → List ℕ → List ℕ → Outcome
 open_add_run files words area text =
-    open_says files.study words area
+    let source = source_found files.study in
+    open_says source words area
     or_gives file_says files.text (word_at words text_word) text
-    or_gives add_site words (entries_of files.text text) (study_in files.study area)
+    or_gives add_site words (entries_of files.text text) (study_in source area)

@@ -86,7 +86,8 @@ fn add(
     ensures placed { Placed written.old 0 (open_add_run files words.now area.now text.now).writes
         written.new (lengths_of result).writes }
 {
-    let study = program_open::study_in(files.study, words, area, said)?;
+    let source = program_open::source_found(files.study);
+    let study = program_open::study_in(source, words, area, said)?;
     let name = program_words::word(words, TEXT);
     let mut entries = [0u32; ENTRIES];
     program_record::take_file(name, files.text, text, &mut entries, said)?;

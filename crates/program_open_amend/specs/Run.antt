@@ -14,7 +14,7 @@ use Rattle.program_changes.specs.declared.Wrong.{Wrong}
 use Rattle.program_changes.specs.Changes.{asked_of, wrong_text}
 use Rattle.program_amend.specs.Run.{sheet_before}
 use Rattle.program_open.specs.Words.{site_word, name_word, entry_word, value_word, office_in, site_in}
-use Rattle.program_open.specs.Opening.{study_in, open_says, ◌or_gives◌, if_accepted}
+use Rattle.program_open.specs.Opening.{source_found, study_in, open_says, ◌or_gives◌, if_accepted}
 
 -- what three words ask for, as in a change of `icuamend`; and what is said of the one that is wrong
 unfoldable pub change_in : List ℕ → Result Change Wrong
@@ -46,4 +46,5 @@ amend_by (Err wrong) words S = saying (wrong_says wrong words)
 -- what is said of the office's word or of the study; or else the site is amended
 unfoldable pub open_amend_run : Found → List ℕ → List ℕ → Outcome
 open_amend_run found words area =
-    open_says found words area or_gives amend_by (change_in words) words (study_in found area)
+    let source = source_found found in
+    open_says source words area or_gives amend_by (change_in words) words (study_in source area)

@@ -128,7 +128,8 @@ fn amend(
     ensures placed { Placed written.old 0 (open_amend_run found words.now area.now).writes
         written.new (lengths_of result).writes }
 {
-    let study = program_open::study_in(found, words, area, said)?;
+    let source = program_open::source_found(found);
+    let study = program_open::study_in(source, words, area, said)?;
     amend_words(words, &study, printed, written, said)
 }
 

@@ -1,15 +1,34 @@
 // Whether a file may be written where another may stand: a study file may be replaced, anything else stays as it is.
 #![tactic(auto)]
 
-ghost use Rattle.std.specs.Prelude.{⊤};
+ghost use Rattle.std.specs.Prelude.{⊤, ◌≡◌};
 ghost use Rattle.program_outcome.specs.Outcome.{Tells};
-ghost use Rattle.program_target.specs.Target.{bytes_text, target_text};
+ghost use Rattle.program_target.specs.Target.{barred_remark, bytes_text, target_text};
 
 use answers::Answer;
 use program_outcome::{AREA_BYTES, Remark, SAID_BYTES};
 
-// What was found where a file is to be written: a file, of which so many bytes were read; nothing; or why none can be written there.
-pub type Found = Result<Option<usize>, Remark>;
+// Why no file is written at a place: a symbolic link stands there; or something that is no file, or that cannot be read and written.
+#[derive(Clone, Copy, PartialEq, Eq, Debug)]
+pub enum Barred {
+    Link,
+    Closed,
+}
+
+// What is said of it.
+impl From<Barred> for Remark {
+    ghost from_gives = { λ why remark. remark ≡ barred_remark why };
+
+    fn from(why: Barred) -> Remark {
+        match why {
+            Barred::Link => Remark::IsLink,
+            Barred::Closed => Remark::Unwritten,
+        }
+    }
+}
+
+// What was found where a file is to be written: a file, of which so many bytes were read; nothing; or why none is written there.
+pub type Found = Result<Option<usize>, Barred>;
 
 // Says why a file of these bytes stays, if it does.
 fn judge_bytes(
@@ -44,6 +63,6 @@ pub fn judge(
     match found {
         Ok(None) => Ok(()),
         Ok(Some(size)) => judge_bytes(name, program_outcome::front(area, size), whole, said),
-        Err(why) => Err(program_outcome::say(name, why, said)),
+        Err(why) => Err(program_outcome::say(name, Remark::from(why), said)),
     }
 }

@@ -1,7 +1,7 @@
 -- The theorems of the programs. Each program reads, makes the calls below and writes what they leave: of each call, it keeps its
 -- promise, as the check proved it of its code; its promise is the definition of what the program gives, word for word; and any two
 -- outcomes that it allows agree. What is left without a promise is input and output alone.
-use mathlib.Core.Path.{◌≡◌, refl, sym, ◌∙◌}
+use mathlib.Core.Path.{◌≡◌, refl, sym, ap, ◌∙◌}
 use mathlib.Core.Bool.{true}
 use mathlib.Core.List.{List, []}
 use Prim.Native.Nat.{ℕ, ◌*◌, ◌≤◌, ◌<◌}
@@ -10,7 +10,8 @@ use contract.Lifetimes.{Lfts}
 use contract.Notation.{connectives}
 use denote.Triple.Clauses.{AtExit}
 use borrow.Fn.World.{World, ArgsD, ResD, Pr}
-use Rattle.std.specs.Prelude.{Some, ⊤}
+use native.Mathlib.Omega.{arith}
+use Rattle.std.specs.Prelude.{Some, ⊤, Result, Ok, Err, IfErr}
 use Rattle.layout.specs.declared.Worksheet.{Worksheet}
 use Rattle.layout.specs.Entries.{entry_count}
 use Rattle.layout.specs.Open.{place_count, blocks_count}
@@ -24,8 +25,7 @@ use Rattle.text.specs.Text.{Placed}
 use Rattle.program_words.specs.Words.{word_at}
 use Rattle.program_outcome.specs.declared.Call.{Call}
 use Rattle.program_outcome.specs.declared.Lengths.{Lengths}
-use Rattle.program_outcome.specs.Outcome.{Outcome, writing, Left}
-use Rattle.program_outcome.specs.Outcome.{Tells}
+use Rattle.program_outcome.specs.Outcome.{Outcome, writing, Left, Tells, bytes_said}
 use Rattle.program_sheet.specs.Run.{asks_all, sheet_run, pages_of, page_at}
 use Rattle.program_sheet.specs.Whole.{pages_up_to, sheet_whole}
 use Rattle.program_sheet.proofs.Whole.{all_pages as pages_whole}
@@ -133,6 +133,20 @@ left_agree run l m =
     let prints = placed_agree l.prints m.prints in
     let says = placed_agree l.says m.says in
     record { prints = prints.0; says = says.0; lengths = (prints.1, l.writes ∙ sym m.writes, says.1) }
+
+-- So do those of a step that stops where a text is said: what it leaves in the area, and whether it stops, by how many bytes.
+pub tells_agree :
+    {text said one other : List ℕ} {r r' : Result ⊤ ℕ} → Tells text said one (λ _. ⊤) r → Tells text said other (λ _. ⊤) r'
+    → (one ≡ other) × (r ≡ r')
+tells_agree {r = r} {r' = r'} t t' =
+    let both = placed_agree t.says t'.says in
+    (both.0, by r r' both.1 t.some t'.some)
+  where
+    by : (r r' : Result ⊤ ℕ) → bytes_said r ≡ bytes_said r' → IfErr r (λ size. 0 < size) → IfErr r' (λ size. 0 < size) → r ≡ r'
+    by (Ok x) (Ok y) same some some' = refl
+    by (Ok x) (Err size) same some some' = absurd (omega (arith, same, some'))
+    by (Err size) (Ok y) same some some' = absurd (omega (arith, same, some))
+    by (Err size) (Err size') same some some' = ap Err same
 
 -- TEXT AFTER TEXT. `icustudy make` takes its texts one by one, the entries of each put after those before it: what is left at the
 -- end is the study file of all their entries in order, or what is said of the first text that is not well.

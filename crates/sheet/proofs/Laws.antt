@@ -24,7 +24,6 @@ use Rattle.procedure.proofs.Fair.{fair, fair_cycle}
 use Rattle.line_bounds.proofs.Lines.{bounded_lines}
 use Rattle.line_stages.specs.declared.Lines.{Lines}
 use Rattle.line_stages.specs.Cells.{cells_of, cells_for}
-use Rattle.sheet_pairs.specs.Picks.{pick_number}
 use Rattle.sheet_pairs.specs.Cells.{pair_cells, pair_in}
 use Rattle.sheet_pairs.specs.declared.Pair.{Pair}
 use Rattle.sheet_street.specs.declared.Street.{Street}
@@ -63,23 +62,23 @@ length-pair_in Point pair = refl
 
 -- what the last eight take of all that was worked out, they take of the lines and cells that the sheet has
 module _ (pair : Pair) where
-  pub picked_same : (k : Worksheet) → pick_number pair.picked ≡ pick_of (pair_in k pair) → picked_time (pair_cells pair) ≡ picked_time (pair_in k pair)
+  pub picked_same : (k : Worksheet) → pair.picked ≡ pick_of (pair_in k pair) → picked_time (pair_cells pair) ≡ picked_time (pair_in k pair)
   picked_same Junction pick = refl
   picked_same Point pick = rw pick
 
-  pub few_same : (k : Worksheet) → pick_number pair.picked ≡ pick_of (pair_in k pair) → pick_of (pair_cells pair) ≡ pick_of (pair_in k pair)
+  pub few_same : (k : Worksheet) → pair.picked ≡ pick_of (pair_in k pair) → pick_of (pair_cells pair) ≡ pick_of (pair_in k pair)
   few_same Junction pick = refl
   few_same Point pick = pick
 
   module _ (z : Lines) where
     pub through_same :
-        (k : Worksheet) → pick_number pair.picked ≡ pick_of (pair_in k pair) → through_time (pair_cells pair) (cells_of z) ≡ through_time (pair_in k pair) (cells_for k z)
+        (k : Worksheet) → pair.picked ≡ pick_of (pair_in k pair) → through_time (pair_cells pair) (cells_of z) ≡ through_time (pair_in k pair) (cells_for k z)
     unfolding through_time
     through_same Junction pick = refl
     through_same Point pick = rw pick
 
     pub left_same :
-        (k : Worksheet) → pick_number pair.picked ≡ pick_of (pair_in k pair) → left_time (pair_cells pair) (cells_of z) ≡ left_time (pair_in k pair) (cells_for k z)
+        (k : Worksheet) → pair.picked ≡ pick_of (pair_in k pair) → left_time (pair_cells pair) (cells_of z) ≡ left_time (pair_in k pair) (cells_for k z)
     unfolding left_time
     left_same Junction pick = refl
     left_same Point pick = rw pick
@@ -134,7 +133,7 @@ small_pair r s = record { few = s.few; picked = s.picked }
 pub right_assembled :
     (k : Worksheet) (e : List ℕ) (a o c d : ℕ) (x y z : Lines) (own cross : Pair) {P Q : List ℕ} {free : ℕ} → free ≡ (read_approach e a).free.0
     → cells_for k x ≡ lines_at k e a o → cells_for k y ≡ lines_at k e c d → cells_for k z ≡ lines_at k e o a → pair_in k own ≡ P → pair_in k cross ≡ Q
-    → pick_number own.picked ≡ pick_of (pair_in k own) → pick_number cross.picked ≡ pick_of (pair_in k cross)
+    → own.picked ≡ pick_of (pair_in k own) → cross.picked ≡ pick_of (pair_in k cross)
     → right_total (eqb free 1) (cells_of x) (through_time (pair_cells cross) (cells_of y)) (left_time (pair_cells own) (cells_of z)) ≡ right_at k e a o c d P Q
 unfolding right_at
 right_assembled k e a o c d x y z own cross f p q r s t i j =
@@ -144,7 +143,7 @@ right_assembled k e a o c d x y z own cross f p q r s t i j =
 
 pub last_assembled :
     (k : Worksheet) (e : List ℕ) (along across : Pair) {eb wb nb sb : ℕ} → pair_in k along ≡ pair_at k e EB WB → pair_in k across ≡ pair_at k e NB SB
-    → pick_number along.picked ≡ pick_of (pair_in k along) → pick_number across.picked ≡ pick_of (pair_in k across)
+    → along.picked ≡ pick_of (pair_in k along) → across.picked ≡ pick_of (pair_in k across)
     → eb ≡ right_at k e EB WB SB NB (pair_at k e EB WB) (pair_at k e NB SB) → wb ≡ right_at k e WB EB NB SB (pair_at k e EB WB) (pair_at k e NB SB)
     → nb ≡ right_at k e NB SB EB WB (pair_at k e NB SB) (pair_at k e EB WB) → sb ≡ right_at k e SB NB WB EB (pair_at k e NB SB) (pair_at k e EB WB)
     → last_of eb wb nb sb (picked_time (pair_cells along) + picked_time (pair_cells across)) (cycle e) ≡ last_at k e

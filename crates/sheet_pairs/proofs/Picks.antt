@@ -19,11 +19,19 @@ chosen_time Protected x y z = refl
 chosen_time Permitted x y z = refl
 chosen_time Split x y z = refl
 
--- the same of a cell's number
+-- the same of a cell's number, of numbers and of times
 pub chosen_at : (n x y z : ℕ) → chosen (pick_at n) x y z ≡ by_pick n x y z
 chosen_at n x y z = go (eqb n 0) (eqb n 1)
   where
     go : (t u : Bool) → chosen (cond t Protected (cond u Permitted Split)) x y z ≡ cond t x (cond u y z)
+    go true u = refl
+    go false true = refl
+    go false false = refl
+
+pub chosen_time_at : (n : ℕ) (x y z : Ms) → (chosen (pick_at n) x y z).0 ≡ by_pick n x.0 y.0 z.0
+chosen_time_at n x y z = go (eqb n 0) (eqb n 1)
+  where
+    go : (t u : Bool) → (chosen (cond t Protected (cond u Permitted Split)) x y z).0 ≡ cond t x.0 (cond u y.0 z.0)
     go true u = refl
     go false true = refl
     go false false = refl

@@ -74,13 +74,13 @@ impl Pick {
     }
 }
 
-// The totals of a pair, and which of them is picked.
+// The totals of a pair, and the number of the one that is picked, as their cells hold them.
 #[derive(Clone, Copy)]
 pub struct Pair {
     pub protected: Ms,
     pub permitted: Ms,
     pub split: Ms,
-    pub picked: Pick,
+    pub picked: u32,
 }
 
 // One approach's left with the other's through, whichever is larger; not where a lane is shared.
@@ -120,20 +120,20 @@ fn choice_of(shared: bool, x: Lines, y: Lines) -> Pair
         protected,
         permitted,
         split,
-        picked: Pick::least(protected, permitted, split),
+        picked: u32::from(Pick::least(protected, permitted, split)),
     }
 }
 
 // Of a single point's: protected is the only phasing, and so the one that is picked.
 fn protected_of(shared: bool, x: Lines, y: Lines) -> Pair
     requires { Bounded (cells_of x) × Bounded (cells_of y) }
-    ensures { (result.protected.0 ≡ protected shared (cells_of x) (cells_of y)) × (result.picked ≡ Pick.Protected) }
+    ensures { (result.protected.0 ≡ protected shared (cells_of x) (cells_of y)) × (result.picked ≡ pick_number Pick.Protected) }
 {
     Pair {
         protected: protected_time(shared, x.first.times, y.first.times),
         permitted: BLANK,
         split: BLANK,
-        picked: Pick::Protected,
+        picked: u32::from(Pick::Protected),
     }
 }
 
@@ -141,7 +141,7 @@ fn protected_of(shared: bool, x: Lines, y: Lines) -> Pair
 pub fn pair_of(kind: Worksheet, shared: bool, x: Lines, y: Lines) -> Pair
     requires { Bounded (cells_of x) × Bounded (cells_of y) }
     ensures result_value { pair_in kind result ≡ pair_for kind shared (cells_for kind x) (cells_for kind y) }
-    ensures picked_value { pick_number result.picked ≡ pick_of (pair_in kind result) }
+    ensures picked_value { result.picked ≡ pick_of (pair_in kind result) }
 {
     match kind {
         Worksheet::Junction => choice_of(shared, x, y),
@@ -157,6 +157,6 @@ pub fn cells_of(pair: Pair) -> [u32; layout::PAIR_CELLS]
         pair.protected.0,
         pair.permitted.0,
         pair.split.0,
-        u32::from(pair.picked),
+        pair.picked,
     ]
 }

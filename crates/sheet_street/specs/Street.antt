@@ -8,7 +8,6 @@ use Rattle.procedure.specs.Sheet.{lines_at, pair_at}
 use Rattle.line_stages.specs.declared.Lines.{Lines}
 use Rattle.line_stages.specs.Stages.{lines_of}
 use Rattle.line_stages.specs.Cells.{cells_for}
-use Rattle.sheet_pairs.specs.Picks.{pick_number}
 use Rattle.sheet_pairs.specs.Cells.{pair_in}
 use Rattle.sheet_street.specs.declared.Street.{Street}
 
@@ -21,4 +20,4 @@ pub record StreetAt (k : Worksheet) (e : List ℕ) (a o : ℕ) (r : Street) : Ty
   pub first : cells_for k r.one ≡ lines_at k e a o
   pub second : cells_for k r.other ≡ lines_at k e o a
   pub pair : pair_in k r.pair ≡ pair_at k e a o
-  pub picked : pick_number r.pair.picked ≡ pick_of (pair_in k r.pair)
+  pub picked : r.pair.picked ≡ pick_of (pair_in k r.pair)

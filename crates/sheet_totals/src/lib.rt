@@ -1,7 +1,7 @@
 // The last eight cells: right totals, combined, required, ICU and letter.
 #![tactic(auto)]
 
-ghost use Rattle.std.specs.Prelude.{◌≡◌, ◌+◌, ◌≤◌, max, eqb};
+ghost use Rattle.std.specs.Prelude.{◌≡◌, ◌+◌, ◌≤◌, max, eqb, get_or};
 ghost use Rattle.kinds.specs.declared.Kind.TheVariants.{Cycle as CycleKind};
 ghost use Rattle.kinds.specs.Kinds.{Within};
 ghost use Rattle.procedure.specs.Pairs.{line, picked_time, through_time, left_time, right_total, icu_of, ends_passed, letter_of};
@@ -12,14 +12,14 @@ ghost use Rattle.sheet_pairs.specs.Cells.{pair_cells};
 
 use kinds::{Cycle, FreeRight};
 use line_stages::Lines;
-use sheet_pairs::Pair;
+use sheet_pairs::{Pair, Pick};
 use units::Ms;
 
 // The time of an approach's through, by the pick of its pair.
 fn through_time(pair: Pair, lines: Lines) -> Ms
     ensures { result.0 ≡ through_time (pair_cells pair) (cells_of lines) }
 {
-    pair.picked.choose(
+    Pick::at(pair.picked).choose(
         lines.first.times.adjustedthrough,
         lines.later.permitted.weighted,
         lines.later.split.weighted,
@@ -30,7 +30,7 @@ fn through_time(pair: Pair, lines: Lines) -> Ms
 fn left_time(pair: Pair, lines: Lines) -> Ms
     ensures { result.0 ≡ left_time (pair_cells pair) (cells_of lines) }
 {
-    pair.picked.choose(
+    Pick::at(pair.picked).choose(
         lines.first.times.adjustedleft,
         Ms(0),
         lines.later.split.weighted,
@@ -74,12 +74,19 @@ pub fn right_of(
     )
 }
 
-// The time of a pair's picked phasing.
+// The cell of a number; 0 past the last.
+fn cell_at(cells: &[u32], number: u32) -> u32
+    ensures { result ≡ get_or cells.now number 0 }
+{
+    cells.get(number as usize).copied().unwrap_or(0)
+}
+
+// The time of a pair's picked phasing: its cell of that number.
 pub fn picked_time(pair: Pair) -> Ms
     ensures { result.0 ≡ picked_time (pair_cells pair) }
 {
-    pair.picked
-        .choose(pair.protected, pair.permitted, pair.split)
+    let cells = sheet_pairs::cells_of(pair);
+    Ms(cell_at(&cells, pair.picked))
 }
 
 // Where the letters A to G end, in tenths of a percent; H is above.

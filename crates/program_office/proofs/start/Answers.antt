@@ -31,6 +31,6 @@ unfolding start_run
 returns-in-Err c =
     rw (c.in-Err.is, c.said-in-Err.ensures)
     record {
-      left = left_saying (rw c.word-name.ensures at c.say.ensures);
+      left = left_saying (rw (c.word-name.ensures, c.from.ensures) at c.say.ensures);
       placed = placed_nothing _ 0;
     }

@@ -9,14 +9,14 @@ unfolding open_add_run
 returns-in_err-study c =
     let p = err_from_is_err_and c.from_residual.result c.from_residual.ensures.1 in
     let both = gives_said _ _ c.in_err-study.ensures in
-    rw (p.1, p.2) record { left = both.0; placed = both.1 }
+    rw (p.1, p.2, ← c.source_found-source.ensures) record { left = both.0; placed = both.1 }
 
 pub returns-in_err-take_file : goal.returns-in_err-take_file
 unfolding open_add_run
 returns-in_err-take_file c =
     let p = err_from_is_err_and c.from_residual-in_err-take_file.result c.from_residual-in_err-take_file.ensures.1 in
     let both = gives_on _ _ c.in_ok-study.ensures (gives_said _ _ c.in_err-take_file.ensures) in
-    rw (p.1, p.2, ← c.word-name.ensures) record { left = both.0; placed = both.1 }
+    rw (p.1, p.2, ← c.source_found-source.ensures, ← c.word-name.ensures) record { left = both.0; placed = both.1 }
 
 pub returns : goal.returns
 unfolding open_add_run
@@ -25,4 +25,4 @@ returns c =
     let text = c.in_ok-take_file.ensures in
     let given = rw (text.good, taken.good) at c.add_site.ensures in
     let both = gives_on _ _ taken (gives_on _ _ text (given.left, given.placed)) in
-    rw (← c.word-name.ensures) record { left = both.0; placed = both.1 }
+    rw (← c.source_found-source.ensures, ← c.word-name.ensures) record { left = both.0; placed = both.1 }

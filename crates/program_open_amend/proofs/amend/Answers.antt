@@ -9,7 +9,7 @@ unfolding open_amend_run
 returns-in_err-study c =
     let p = err_from_is_err_and c.from_residual.result c.from_residual.ensures.1 in
     let both = gives_said _ _ c.in_err-study.ensures in
-    rw (p.1, p.2) record { left = both.0; placed = both.1 }
+    rw (p.1, p.2, ← c.source_found-source.ensures) record { left = both.0; placed = both.1 }
 
 pub returns : goal.returns
 unfolding open_amend_run
@@ -17,4 +17,4 @@ returns c =
     let taken = c.in_ok-study.ensures in
     let given = rw taken.good at c.amend_words.ensures in
     let both = gives_on _ _ taken (given.left, given.placed) in
-    record { left = both.0; placed = both.1 }
+    rw (← c.source_found-source.ensures) record { left = both.0; placed = both.1 }

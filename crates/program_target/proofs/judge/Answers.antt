@@ -15,4 +15,4 @@ returns-in-Ok-Some c =
 
 pub returns-in-Err : goal.returns-in-Err
 unfolding target_text
-returns-in-Err c = rw c.in-Err.is (stops_of _ _ c.say.ensures)
+returns-in-Err c = rw c.in-Err.is (stops_of _ _ (rw c.from.ensures at c.say.ensures))

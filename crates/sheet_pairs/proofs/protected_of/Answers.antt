@@ -1,7 +1,6 @@
 use Rattle.procedure.specs.Pairs.{protected}
-use mathlib.Core.Path.{refl}
 use Rattle.sheet_pairs.proofs.protected_of.Goals as goal
 
 pub returns : goal.returns
 unfolding protected
-returns c = (c.protected_time.ensures, refl)
+returns c = (c.protected_time.ensures, c.from.ensures)
